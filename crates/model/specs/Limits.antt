@@ -24,5 +24,5 @@ abbrev pub maxWords : ℕ
 maxWords = 1048576
 
 -- Velocity 1 to 127, in every lane.
-abbrev pub velocityOk : ℕ → ℕ → Bool
+unfoldable pub velocityOk : ℕ → ℕ → Bool
 velocityOk lane v = leb 1 v && leb v 127

@@ -17,6 +17,7 @@ use Rattle.model.specs.declared.Cell.{Cell}
 
 -- Lane below 2,048; start < end ≤ n × δ; velocity in its range.
 unfoldable pub noteOk : ℕ → ℕ → Note → Bool
+unfolding velocityOk
 noteOk δ beats n =
     ltb (n .lane) laneCount && ltb (n .start) (n .end) && leb (n .end) (beats * δ) && velocityOk (n .lane) (n .velocity)
 
@@ -40,6 +41,7 @@ notesOk δ beats (n ∷ ns) = noteOk δ beats n && firstFollows n ns && notesOk 
 
 -- Lane below 2,048; beat below n; side 0 or 1; velocity as in notes.
 unfoldable pub cellInRange : ℕ → Cell → Bool
+unfolding velocityOk
 cellInRange beats c = ltb (c .lane) laneCount && ltb (c .beat) beats && leb (c .side) 1 && velocityOk (c .lane) (c .velocity)
 
 -- Order: lane, beat, side; each such triple occurs at most once.
