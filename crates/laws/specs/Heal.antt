@@ -76,6 +76,10 @@ more-piece : (p : Piece) (ps : List Piece) (m : Note) (ns : List Note) (r : Note
 unfolding runs
 more-piece p ps m ns r s j h e = record { shows = s; notes = rw (s, j, h .shows, h .notes) (ap (λ (x : Note). x ∷ ns) e) }
 
+pub not-open : (δ : ℕ) (c : Cell) → opening c ≡ false → fills δ c ≡ false
+unfolding fills
+not-open δ c e = rw e
+
 module _ (H : Header) where
   -- a cell's own piece
   abbrev pub alone : Cell → Bool → Bool → Piece
@@ -90,10 +94,6 @@ module _ (H : Header) where
       → pieces H left (c ∷ cs) ≡ alone c (standsAlone H c || left || boundNext H c cs) (boundNext H c cs) ∷ pieces H (boundNext H c cs) cs
   unfolding pieces
   step-single c cs left e = add-single c (standsAlone H c || left || boundNext H c cs) (boundNext H c cs) (pieces H (boundNext H c cs) cs) e
-
-  pub not-open : (c : Cell) → opening c ≡ false → fills (H .delta) c ≡ false
-  unfolding fills
-  not-open c e = rw e
 
   -- an opening cell is bound to nothing behind it
   pub open-meet : (c d : Cell) → c .side ≡ 0 → meet c d ≡ false
@@ -118,7 +118,7 @@ module _ (H : Header) where
         open-free c (d ∷ cs) f,
         or-false (standsAlone H c || left),
         or-false (standsAlone H d),
-        add-single d (standsAlone H d || boundNext H d cs) (boundNext H d cs) (pieces H (boundNext H d cs) cs) (not-open d g),
+        add-single d (standsAlone H d || boundNext H d cs) (boundNext H d cs) (pieces H (boundNext H d cs) cs) (not-open (H .delta) d g),
         e,
         addCell,
       )
@@ -212,7 +212,7 @@ module _ (H : Header) (z : 0 < (H .delta)) (n : Note) where
         go false true e g =
             let gt : suc b * (H .delta) ≤ n .end = leb-true (suc b * (H .delta)) (n .end) g in
             let af : n .end - suc b * (H .delta) ≡ 0 = omega arith in
-            rw (e, g, step-single H (closeC b) cs left (not-open H (closeC b) refl), fresh-free H (closeC b) cs refl af f)
+            rw (e, g, step-single H (closeC b) cs left (not-open (H .delta) (closeC b) refl), fresh-free H (closeC b) cs refl af f)
             (last-piece _ _ _ (or-left false (or-left left (close-alone H (closeC b) refl af))) refl (note-same refl (omega arith) (omega arith) refl))
         go false false e g =
             let gt : n .end < suc b * (H .delta) = leb-false (suc b * (H .delta)) (n .end) g in
@@ -230,41 +230,41 @@ module _ (H : Header) (z : 0 < (H .delta)) (n : Note) where
             (more-piece _ _ _ _ _ (and-yes (open-held b left le q) (or-right (standsAlone H (closeC b)) refl)) refl ih refl)
         go false e ih =
             let gt : suc b * (H .delta) < n .end = omega arith in
-            rw (e, le-leb (suc b * (H .delta)) (n .end) (omega arith), step-single H (closeC b) (rest k (suc b) ++ cs) left (not-open H (closeC b) refl), bound-next k b cs h gt)
+            rw (e, le-leb (suc b * (H .delta)) (n .end) (omega arith), step-single H (closeC b) (rest k (suc b) ++ cs) left (not-open (H .delta) (closeC b) refl), bound-next k b cs h gt)
             (more-piece _ _ _ _ _ (or-right (standsAlone H (closeC b) || left) refl) refl ih (note-same refl (omega arith) refl refl))
 
 -- ---- a whole note, and a recording
 
+-- the beat of a tick
+pub low : (δ s : ℕ) → s / δ * δ ≤ s
+low δ s = div-mul-le-self s δ
+
+pub high : (δ : ℕ) → 0 < δ → (s : ℕ) → s < suc (s / δ) * δ
+high δ z s = let h = lt-div-mul-add {a = s} z in omega arith
+
+-- a note that touches no line has no cell
+pub no-cells : (δ : ℕ) → 0 < δ → (n : Note) → n .start < n .end → inside δ n ≡ true → cellsOfNote δ n ≡ []
+unfolding cellsOfNote insideAt
+no-cells δ z n v e =
+    let s = n .start in
+    let a : s / δ * δ < s = ltb-true (s / δ * δ) s (and-left (ltb (s / δ * δ) s) _ e) in
+    let b : n .end < suc (s / δ) * δ = ltb-true (n .end) (suc (s / δ) * δ) (and-right (ltb (s / δ * δ) s) _ e) in
+    let p : (n .end - 1) / δ < suc (s / δ) = div-lt-iff-lt-mul z .1 (omega arith) in
+    let q : s / δ ≤ (n .end - 1) / δ = le-div-iff-mul-le z .1 (omega arith) in
+    let c : suc ((n .end - 1) / δ) - s / δ ≡ 1 = omega arith in
+    rw (c, lt-leb s (s / δ * δ) a, lt-leb (suc (s / δ) * δ) (n .end) b)
+
+pub touch-line : (δ : ℕ) (n : Note) → inside δ n ≡ false → n .start / δ * δ < n .start → suc (n .start / δ) * δ ≤ n .end
+unfolding insideAt
+touch-line δ n e a = ltb-false (n .end) (suc (n .start / δ) * δ) (rw (lt-ltb (n .start / δ * δ) (n .start) a) at e)
+
 module _ (H : Header) (z : 0 < (H .delta)) where
-  -- the beat of a tick
-  pub low : (s : ℕ) → s / (H .delta) * (H .delta) ≤ s
-  low s = div-mul-le-self s (H .delta)
-
-  pub high : (s : ℕ) → s < suc (s / (H .delta)) * (H .delta)
-  high s = let h = lt-div-mul-add {a = s} z in omega arith
-
-  -- a note that touches no line has no cell
-  pub no-cells : (n : Note) → n .start < n .end → inside (H .delta) n ≡ true → cellsOfNote (H .delta) n ≡ []
-  unfolding cellsOfNote insideAt
-  no-cells n v e =
-      let s = n .start in
-      let a : s / (H .delta) * (H .delta) < s = ltb-true (s / (H .delta) * (H .delta)) s (and-left (ltb (s / (H .delta) * (H .delta)) s) _ e) in
-      let b : n .end < suc (s / (H .delta)) * (H .delta) = ltb-true (n .end) (suc (s / (H .delta)) * (H .delta)) (and-right (ltb (s / (H .delta) * (H .delta)) s) _ e) in
-      let p : (n .end - 1) / (H .delta) < suc (s / (H .delta)) = div-lt-iff-lt-mul z .1 (omega arith) in
-      let q : s / (H .delta) ≤ (n .end - 1) / (H .delta) = le-div-iff-mul-le z .1 (omega arith) in
-      let c : suc ((n .end - 1) / (H .delta)) - s / (H .delta) ≡ 1 = omega arith in
-      rw (c, lt-leb s (s / (H .delta) * (H .delta)) a, lt-leb (suc (s / (H .delta)) * (H .delta)) (n .end) b)
-
   start-same : (s c : ℕ) → c ≤ s → cond (leb s c) c s ≡ s
   start-same s c h = go (leb s c) refl
     where
       go : (b : Bool) → leb s c ≡ b → cond b c s ≡ s
       go true e = let l : s ≤ c = leb-true s c e in omega arith
       go false e = refl
-
-  pub touch-line : (n : Note) → inside (H .delta) n ≡ false → n .start / (H .delta) * (H .delta) < n .start → suc (n .start / (H .delta)) * (H .delta) ≤ n .end
-  unfolding insideAt
-  touch-line n e a = ltb-false (n .end) (suc (n .start / (H .delta)) * (H .delta)) (rw (lt-ltb (n .start / (H .delta) * (H .delta)) (n .start) a) at e)
 
   -- one that touches a line goes in as a whole
   heal-note : (n : Note) (cs : List Cell) → Fresh cs → n .start < n .end → inside (H .delta) n ≡ false
@@ -274,15 +274,15 @@ module _ (H : Header) (z : 0 < (H .delta)) where
       let s = n .start in
       let B = s / (H .delta) in
       let E = (n .end - 1) / (H .delta) in
-      let ls : B * (H .delta) ≤ s = low s in
-      let le : E * (H .delta) ≤ n .end - 1 = low (n .end - 1) in
-      let he : n .end - 1 < suc E * (H .delta) = high (n .end - 1) in
+      let ls : B * (H .delta) ≤ s = low (H .delta) s in
+      let le : E * (H .delta) ≤ n .end - 1 = low (H .delta) (n .end - 1) in
+      let he : n .end - 1 < suc E * (H .delta) = high (H .delta) z (n .end - 1) in
       let q : B ≤ E = le-div-iff-mul-le z .1 (omega arith) in
       let k : suc E - B ≡ suc (E - B) = omega arith in
       let j : B + (E - B) ≡ E = omega arith in
       let w : from H z n B ≡ n = note-same refl (start-same s (B * (H .delta)) ls) refl refl in
       rw k (subst (λ (m : Note). Healed (pieces H false (rest H z n (E - B) B ++ cs)) m (runs (pieces H false cs))) w
-      (heal H z n cs f (E - B) B false (high s) (rw j (omega arith)) (rw j (omega arith)) (touch-line n e) (λ a. absurd (omega arith))))
+      (heal H z n cs f (E - B) B false (high (H .delta) z s) (rw j (omega arith)) (rw j (omega arith)) (touch-line (H .delta) n e) (λ a. absurd (omega arith))))
 
   -- its first cell is fresh
   fresh-note : (n : Note) (cs : List Cell) → n .start < n .end → inside (H .delta) n ≡ false → Fresh (cellsOfNote (H .delta) n ++ cs)
@@ -291,14 +291,14 @@ module _ (H : Header) (z : 0 < (H .delta)) where
       let s = n .start in
       let B = s / (H .delta) in
       let E = (n .end - 1) / (H .delta) in
-      let ls : B * (H .delta) ≤ s = low s in
+      let ls : B * (H .delta) ≤ s = low (H .delta) s in
       let q : B ≤ E = le-div-iff-mul-le z .1 (omega arith) in
       let k : suc E - B ≡ suc (E - B) = omega arith in
       rw k (go (E - B) (leb s (B * (H .delta))) refl)
     where
       go : (k : ℕ) (t : Bool) → leb (n .start) (n .start / (H .delta) * (H .delta)) ≡ t → Fresh (gather (cellsInBeat (H .delta) n) (countFrom (suc k) (n .start / (H .delta))) ++ cs)
-      go k true g = rw g (λ o. let ls : n .start / (H .delta) * (H .delta) ≤ n .start = low (n .start) in omega arith)
-      go k false g = rw (g, le-leb (suc (n .start / (H .delta)) * (H .delta)) (n .end) (touch-line n e (leb-false (n .start) (n .start / (H .delta) * (H .delta)) g))) (λ o. absurd (true≢false (sym o)))
+      go k true g = rw g (λ o. let ls : n .start / (H .delta) * (H .delta) ≤ n .start = low (H .delta) (n .start) in omega arith)
+      go k false g = rw (g, le-leb (suc (n .start / (H .delta)) * (H .delta)) (n .end) (touch-line (H .delta) n e (leb-false (n .start) (n .start / (H .delta) * (H .delta)) g))) (λ o. absurd (true≢false (sym o)))
 
   -- the cells of a recording start fresh
   fresh : (ns : List Note) → All (λ n. n .start < n .end) ns → Fresh (gather (cellsOfNote (H .delta)) ns)
@@ -306,7 +306,7 @@ module _ (H : Header) (z : 0 < (H .delta)) where
   fresh (n ∷ ns) v = go (inside (H .delta) n) refl (fresh ns (v .1))
     where
       go : (b : Bool) → inside (H .delta) n ≡ b → Fresh (gather (cellsOfNote (H .delta)) ns) → Fresh (cellsOfNote (H .delta) n ++ gather (cellsOfNote (H .delta)) ns)
-      go true e f = rw (no-cells n (v .0) e) f
+      go true e f = rw (no-cells (H .delta) z n (v .0) e) f
       go false e f = fresh-note n (gather (cellsOfNote (H .delta)) ns) (v .0) e
 
   -- the notes that the rules give from a recording's cells are its notes that touch a line
@@ -317,7 +317,7 @@ module _ (H : Header) (z : 0 < (H .delta)) where
     where
       go : (b : Bool) → inside (H .delta) n ≡ b → runs (pieces H false (gather (cellsOfNote (H .delta)) ns)) ≡ keep (λ n. not (inside (H .delta) n)) ns
           → runs (pieces H false (cellsOfNote (H .delta) n ++ gather (cellsOfNote (H .delta)) ns)) ≡ consIf (not b) n (keep (λ n. not (inside (H .delta) n)) ns)
-      go true e ih = rw (no-cells n (v .0) e) ih
+      go true e ih = rw (no-cells (H .delta) z n (v .0) e) ih
       go false e ih = (heal-note n (gather (cellsOfNote (H .delta)) ns) (fresh ns (v .1)) (v .0) e) .notes ∙ ap (_∷_ n) ih
 
 -- ---- order

@@ -3,3 +3,8 @@ pub mod History
 pub mod Inner
 pub mod Heal
 pub mod Lay
+pub mod Chain
+pub mod Rules
+pub mod Order
+pub mod Solo
+pub mod Walk
