@@ -8,3 +8,11 @@ pub mod Rules
 pub mod Order
 pub mod Solo
 pub mod Walk
+pub mod Reading
+pub mod Shelf
+pub mod Reach
+pub mod Back
+pub mod Revert
+pub mod Count
+pub mod Sweep
+pub mod Steps
