@@ -1,17 +1,17 @@
 -- Soundness by neighbours: the test of a shelf that looks at each cell and the next one only. `Soundness` shows that it is the paper's.
 -- Assumes nothing.
-use Prim.Native.Nat.{ℕ, zero, suc, _+_, _-_, _*_}
-use mathlib.Core.Bool.{Bool, true, false, cond, not, _&&_, _||_}
-use mathlib.Core.List.{List, [], _∷_, _++_}
-use lib.Dec.{leb, ltb, eqb}
-use Rattle.model.specs.Lists.{keep, every}
-use Rattle.model.specs.Pieces.{firstBeat, insideAt, inside}
-use Rattle.model.specs.Binding.{opening, fills}
-use Rattle.model.specs.Soundness.{notesOk, cellInRange, memoryWithin, hasTicks, cellBefore, filled, partners, notesGiven, layoutOk}
-use Rattle.model.specs.Takes.{word, readNotes, readCells, notesIn, cellsIn}
+use mathlib.Core.Bool.{Bool, _&&_, _||_, cond, not, true}
+use mathlib.Core.List.{List, [], _∷_}
+use Prim.Native.Nat.{_*_, _+_, suc, ℕ}
+use lib.Dec.{eqb, leb}
+use Rattle.model.specs.Binding.{fills, opening}
+use Rattle.model.specs.Lists.{every, keep}
+use Rattle.model.specs.Pieces.{firstBeat, inside, insideAt}
+use Rattle.model.specs.Soundness.{cellBefore, cellInRange, filled, hasTicks, layoutOk, memoryWithin, notesGiven, notesOk, partners}
+use Rattle.model.specs.Takes.{cellsIn, notesIn, readCells, readNotes, word}
+use Rattle.model.specs.declared.Cell.{Cell}
 use Rattle.model.specs.declared.Header.{Header}
 use Rattle.model.specs.declared.Note.{Note}
-use Rattle.model.specs.declared.Cell.{Cell}
 
 -- What is asked of a cell by itself.
 unfoldable pub cellOk : ℕ → ℕ → Cell → Bool

@@ -1,19 +1,15 @@
--- Laws of lists by a Boolean test, and of counted lists.
+-- Lists by a Boolean test, and counted lists.
 -- Assumes nothing.
-use mathlib.Core.Path.{_≡_, refl, sym, ap, _∙_}
+use mathlib.Core.Bool.{Bool, _&&_, cond, false, true}
+use mathlib.Core.List.{List, [], _++_, _∷_, append-assoc, append-nil, map}
 use mathlib.Core.Logic.{_≢_}
-use mathlib.Core.Bool.{Bool, true, false, cond, _&&_}
-use mathlib.Core.List.{List, [], _∷_, _++_, map, append-assoc, append-nil}
-use Prim.Native.Nat.{ℕ, zero, suc, _+_, _≤_, _<_}
+use mathlib.Core.Path.{_∙_, _≡_, ap, refl, sym}
+use Prim.Native.Nat.{_+_, _<_, _≤_, suc, zero, ℕ}
 use native.Mathlib.Decide.{ℕ-discrete}
 use native.Mathlib.Omega.{arith}
-use Rattle.model.specs.Lists.{consIf, keep, gather, countFrom}
-
-and-comm : (a b : Bool) → a && b ≡ b && a
-and-comm true true = refl
-and-comm true false = refl
-and-comm false true = refl
-and-comm false false = refl
+use lib.ListN.{length}
+use Rattle.model.specs.Lists.{consIf, countFrom, gather, keep}
+use Rattle.laws.specs.Booleans.{and-comm}
 
 module _ {A : Type 0} where
   consIf-append : (b : Bool) (x : A) (xs ys : List A) → consIf b x xs ++ ys ≡ consIf b x (xs ++ ys)
@@ -94,3 +90,15 @@ module _ {B : Type 0} where
     | yes e ↦ rw (e, gather-none f n (suc l) (λ k c. h k (omega arith)), append-nil)
     | no d ↦ rw (h i d, gather-one f n (suc i) l (omega arith) (omega arith) h)
   ]
+
+pub length-keep : {A : Type 0} (p : A → Bool) (xs : List A) → length (keep p xs) ≤ length xs
+length-keep p [] = omega arith
+length-keep p (x ∷ xs) = go (p x) (length-keep p xs)
+  where
+    go : (b : Bool) → length (keep p xs) ≤ length xs → length (consIf b x (keep p xs)) ≤ suc (length xs)
+    go true h = omega arith
+    go false h = omega arith
+
+pub length-map : {A B : Type 0} (f : A → B) (xs : List A) → length (map f xs) ≡ length xs
+length-map f [] = refl
+length-map f (x ∷ xs) = ap suc (length-map f xs)

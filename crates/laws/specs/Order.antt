@@ -1,121 +1,30 @@
--- The notes of a sound take are in range, in order and do not overlap.
+-- The notes of a solid take are in range, in order and do not overlap.
 -- Assumes nothing.
-use mathlib.Core.Path.{_≡_, refl, sym, ap, ap₂, _∙_, subst}
-use mathlib.Core.Logic.{_≢_}
-use mathlib.Core.Bool.{Bool, true, false, cond, not, _&&_, _||_, true≢false}
-use mathlib.Core.List.{List, [], _∷_, _++_, map}
-use Prim.Native.Nat.{ℕ, zero, suc, _+_, _-_, _*_, _/_, _%_, _≤_, _<_}
-use native.Mathlib.Nat.{mul-le-mul-right}
+use mathlib.Core.Bool.{Bool, _&&_, _||_, cond, false, true, true≢false}
+use mathlib.Core.List.{List, [], _∷_}
+use mathlib.Core.Path.{_≡_, ap, refl, sym}
+use Prim.Native.Nat.{_*_, _+_, _<_, _≤_, suc, ℕ}
 use native.Mathlib.Decide.{decLe, ℕ-discrete}
+use native.Mathlib.Nat.{mul-le-mul-right}
 use native.Mathlib.Omega.{arith}
-use lib.Dec.{leb, ltb, eqb}
-use borrow.Author.Tests.{lt-ltb, le-ltb, le-leb, lt-leb, eq-eqb, ne-eqb, eqb-true, eqb-false, leb-true, leb-false, ltb-true, ltb-false}
-use Rattle.laws.specs.Heal.{or-left, or-right, or-false, open-free, not-open, Follow, above, later, follow-trans, follow, before}
-use Rattle.laws.specs.Inner.{All, all-append, all-cond, and-left, and-right, and-yes, meet-line, close-end}
-use Rattle.laws.specs.Lay.{all-imp, Pairs}
-use Rattle.laws.specs.Rules.{Pair, Pieced, stop, single, double, pair-open, pair-close, pair-fills, pair-filled, fill-open-alone, fill-close-alone, linked, own, walk, line-walk}
-use Rattle.laws.specs.Chain.{clear}
-use Rattle.model.specs.Binding.{opening, standsAlone, meet, bound, boundNext, fills, startOf, endOf, goOn, lineNotes}
-use Rattle.model.specs.Limits.{velocityOk}
-use Rattle.model.specs.Lists.{consIf, keep, gather}
-use Rattle.model.specs.Pieces.{firstBeat, insideAt, inside}
-use Rattle.model.specs.Soundness.{noteOk, follows, firstFollows, notesOk, filled, cellInRange, memoryWithin, hasTicks}
-use Rattle.model.specs.Takes.{Take, noteBefore, weave, merge, notesOf}
+use lib.Dec.{eqb}
+use borrow.Author.Tests.{eq-eqb, eqb-true, leb-false, ne-eqb}
+use Rattle.model.specs.Binding.{bound, boundNext, endOf, fills, goOn, lineNotes, meet, opening, standsAlone, startOf}
+use Rattle.model.specs.Pieces.{firstBeat, inside}
+use Rattle.model.specs.Soundness.{filled, notesOk}
+use Rattle.model.specs.Takes.{Take, merge, notesOf}
 use Rattle.model.specs.declared.Cell.{Cell}
-use Rattle.model.specs.declared.Note.{Note}
 use Rattle.model.specs.declared.Header.{Header}
-
--- ---- the conditions in numbers
-
--- A note in range.
-pub record Fair (δ beats : ℕ) (n : Note) : Type 0 where
-  pub lane-below : n .lane < 2048
-  pub order : n .start < n .end
-  pub fits : n .end ≤ beats * δ
-  pub loud : velocityOk (n .lane) (n .velocity) ≡ true
-
-pub fair : (δ beats : ℕ) (n : Note) → noteOk δ beats n ≡ true → Fair δ beats n
-unfolding noteOk
-fair δ beats n e =
-    let a = ltb (n .lane) 2048 in
-    let b = ltb (n .start) (n .end) in
-    let c = leb (n .end) (beats * δ) in
-    let v = velocityOk (n .lane) (n .velocity) in
-    let e3 = and-left (a && b && c) v e in
-    let e2 = and-left (a && b) c e3 in
-    record {
-      lane-below = ltb-true (n .lane) 2048 (and-left a b e2);
-      order = ltb-true (n .start) (n .end) (and-right a b e2);
-      fits = leb-true (n .end) (beats * δ) (and-right (a && b) c e3);
-      loud = and-right (a && b && c) v e;
-    }
-
-pub fair-ok : (δ beats : ℕ) (n : Note) → Fair δ beats n → noteOk δ beats n ≡ true
-unfolding noteOk
-fair-ok δ beats n f =
-    and-yes (and-yes (and-yes (lt-ltb (n .lane) 2048 (f .lane-below)) (lt-ltb (n .start) (n .end) (f .order))) (le-leb (n .end) (beats * δ) (f .fits))) (f .loud)
-
--- A cell in range.
-pub record Fine (δ beats : ℕ) (c : Cell) : Type 0 where
-  pub lane-below : c .lane < 2048
-  pub beat-below : c .beat < beats
-  pub side-below : c .side ≤ 1
-  pub loud : velocityOk (c .lane) (c .velocity) ≡ true
-  pub sum : c .before + c .after ≤ 4096 * δ
-  pub open-ticks : opening c ≡ true → 0 < c .after
-  pub close-ticks : opening c ≡ false → 0 < c .before
-
-pub fine : (δ beats : ℕ) (c : Cell) → cellInRange beats c ≡ true → memoryWithin δ c ≡ true → hasTicks c ≡ true → Fine δ beats c
-unfolding cellInRange memoryWithin hasTicks
-fine δ beats c e m k =
-    let a = ltb (c .lane) 2048 in
-    let b = ltb (c .beat) beats in
-    let s = leb (c .side) 1 in
-    let v = velocityOk (c .lane) (c .velocity) in
-    let e3 = and-left (a && b && s) v e in
-    let e2 = and-left (a && b) s e3 in
-    record {
-      lane-below = ltb-true (c .lane) 2048 (and-left a b e2);
-      beat-below = ltb-true (c .beat) beats (and-right a b e2);
-      side-below = leb-true (c .side) 1 (and-right (a && b) s e3);
-      loud = and-right (a && b && s) v e;
-      sum = leb-true (c .before + c .after) (4096 * δ) m;
-      open-ticks = λ o. ltb-true 0 (c .after) (rw o at k);
-      close-ticks = λ o. ltb-true 0 (c .before) (rw o at k);
-    }
-
-module _ (δ beats : ℕ) (c : Cell) (f : Fine δ beats c) where
-  pub fine-range : cellInRange beats c ≡ true
-  unfolding cellInRange
-  fine-range = and-yes (and-yes (and-yes (lt-ltb (c .lane) 2048 (f .lane-below)) (lt-ltb (c .beat) beats (f .beat-below))) (le-leb (c .side) 1 (f .side-below))) (f .loud)
-
-  pub fine-memory : memoryWithin δ c ≡ true
-  unfolding memoryWithin
-  fine-memory = le-leb (c .before + c .after) (4096 * δ) (f .sum)
-
-  pub fine-ticks : hasTicks c ≡ true
-  unfolding hasTicks
-  fine-ticks = go (opening c) refl
-    where
-      go : (o : Bool) → opening c ≡ o → cond o (ltb 0 (c .after)) (ltb 0 (c .before)) ≡ true
-      go true e = lt-ltb 0 (c .after) (f .open-ticks e)
-      go false e = lt-ltb 0 (c .before) (f .close-ticks e)
-
--- c lies before d, and two pieces of one beat do not overlap.
-pub data Apart (δ : ℕ) (c d : Cell) : Type 0 where
-  lane-up : c .lane < d .lane → Apart δ c d
-  beat-up : c .lane ≡ d .lane → c .beat < d .beat → Apart δ c d
-  side-up : c .lane ≡ d .lane → c .beat ≡ d .beat → c .side ≡ 0 → d .side ≡ 1 → (fills δ c ≡ false → c .after + d .before ≤ δ) → Apart δ c d
-
--- A note that touches no line, and a cell's piece, do not overlap.
-pub record Clear (δ : ℕ) (n : Note) (c : Cell) : Type 0 where
-  pub behind : n .lane ≡ c .lane → firstBeat δ n ≡ c .beat → opening c ≡ true → c .beat * δ + c .after ≤ n .start
-  pub before : n .lane ≡ c .lane → firstBeat δ n ≡ c .beat → opening c ≡ false → n .end + c .before ≤ suc (c .beat) * δ
-
--- Two notes, one behind the other.
-pub data Away (m n : Note) : Type 0 where
-  left : Follow m n → Away m n
-  right : Follow n m → Away m n
+use Rattle.model.specs.declared.Note.{Note}
+use Rattle.laws.specs.Beats.{inside-high, inside-low}
+use Rattle.laws.specs.Booleans.{and-left, or-right}
+use Rattle.laws.specs.Lines.{meet-line}
+use Rattle.laws.specs.Merging.{all-merge, merge-pairs}
+use Rattle.laws.specs.Notes.{Away, Fair, Follow, Long, above, follow-end, later, left, pairs-ok, right}
+use Rattle.laws.specs.Relations.{All, Pairs, all-imp}
+use Rattle.laws.specs.Rules.{Pair, Pieced, double, not-open, pair-close, pair-fills, pair-open, single, stop}
+use Rattle.laws.specs.Solid.{Apart, Clear, Fine, Solid, beat-up, lane-up, side-up}
+use Rattle.laws.specs.Walk.{line-walk, own, walk}
 
 -- ---- one piece in front of the notes behind it
 
@@ -136,10 +45,6 @@ record Out (δ beats l s : ℕ) (held : Bool) (ns : List Note) : Type 0 where
 follow-beyond : (p n : Note) → p .start < p .end → Follow p n → Beyond (p .lane) (p .start) n
 follow-beyond p n v (above a) = up a
 follow-beyond p n v (later a b) = on a (omega arith)
-
-follow-end : (p q n : Note) → p .lane ≡ q .lane → p .end ≡ q .end → Follow p n → Follow q n
-follow-end p q n l e (above a) = above (omega arith)
-follow-end p q n l e (later a b) = later (omega arith) (omega arith)
 
 module _ (δ beats : ℕ) where
   step : (p : Note) (ns : List Note) (on-it shown held : Bool) → Fair δ beats p → (held ≡ true → shown ≡ true) → All (Follow p) ns → All (Fair δ beats) ns → Pairs Follow ns
@@ -418,88 +323,6 @@ module _ (H : Header) (beats : ℕ) (z : 0 < (H .delta)) (le : (H .epsilon) ≤ 
         let o : Outs on-it cs (walk H on-it cs) = outs p (k .1 .1) (a .1 .1) on-it in
         rw (walk-double c d cs held q)
         (step-away (H .delta) beats n (whole c d) (walk H on-it cs) on-it true v (away-double c d q (k .0) (w .0)) (away-all p (k .1 .1) (a .1 .1) (w .1 .1) on-it) (λ e. rw (← (q .lane-same)) (bound-begins d cs (walk H on-it cs) o e)))
-
--- ---- two lists of notes in one
-
-all-weave : (P : Note → Type 0) (x : Note) (more : List Note → List Note) → P x → ((ys : List Note) → All P ys → All P (more ys)) → (ys : List Note) → All P ys → All P (weave x more ys)
-unfolding weave
-all-weave P x more h f [] a = (h, f [] a)
-all-weave P x more h f (y ∷ ys) a = go (noteBefore x y) refl (all-weave P x more h f ys (a .1))
-  where
-    go : (b : Bool) → noteBefore x y ≡ b → All P (weave x more ys) → All P (weave x more (y ∷ ys))
-    go true e ih = rw (e, weave) (h, f (y ∷ ys) a)
-    go false e ih = rw (e, weave) (a .0, ih)
-
-pub all-merge : (P : Note → Type 0) (xs ys : List Note) → All P xs → All P ys → All P (merge xs ys)
-unfolding merge
-all-merge P [] ys a b = b
-all-merge P (x ∷ xs) ys a b = all-weave P x (λ zs. merge xs zs) (a .0) (λ zs c. all-merge P xs zs (a .1) c) ys b
-
-abbrev pub Long : Note → Type 0
-Long n = n .start < n .end
-
-first-of : (x y : Note) → Long x → Long y → Away x y → noteBefore x y ≡ true → Follow x y
-first-of x y v w (left f) e = f
-first-of x y v w (right f) e = absurd (true≢false (sym e ∙ (before y x w f) .1))
-
-second-of : (x y : Note) → Long x → Long y → Away x y → noteBefore x y ≡ false → Follow y x
-second-of x y v w (right f) e = f
-second-of x y v w (left f) e = absurd (true≢false (sym ((before x y v f) .0) ∙ e))
-
-weave-pairs : (x : Note) (xs : List Note) → Long x → All Long xs → All (Follow x) xs
-    → ((ys : List Note) → All Long ys → Pairs Follow ys → All (λ m. All (Away m) ys) xs → Pairs Follow (merge xs ys))
-    → (ys : List Note) → All Long ys → Pairs Follow ys → All (Away x) ys → All (λ m. All (Away m) ys) xs → Pairs Follow (weave x (λ zs. merge xs zs) ys)
-unfolding weave
-weave-pairs x xs v vs a f [] w p b c = (all-merge (Follow x) xs [] a tt, f [] w p c)
-weave-pairs x xs v vs a f (y ∷ ys) w p b c = go (noteBefore x y) refl (weave-pairs x xs v vs a f ys (w .1) (p .1) (b .1) (all-imp (λ m. All (Away m) (y ∷ ys)) (λ m. All (Away m) ys) xs (λ m h. h .1) c))
-  where
-    go : (t : Bool) → noteBefore x y ≡ t → Pairs Follow (weave x (λ zs. merge xs zs) ys) → Pairs Follow (weave x (λ zs. merge xs zs) (y ∷ ys))
-    go true e ih =
-        let g : Follow x y = first-of x y v (w .0) (b .0) e in
-        rw (e, weave) (all-merge (Follow x) xs (y ∷ ys) a (g, all-imp (Follow y) (Follow x) ys (λ m h. follow-trans x y m (w .0) g h) (p .0)), f (y ∷ ys) w p c)
-    go false e ih =
-        let g : Follow y x = second-of x y v (w .0) (b .0) e in
-        rw (e, weave) (all-weave (Follow y) x (λ zs. merge xs zs) g (λ zs h. all-merge (Follow y) xs zs (all-imp (Follow x) (Follow y) xs (λ m k. follow-trans y x m v g k) a) h) ys (p .0), ih)
-
-pub merge-pairs : (xs ys : List Note) → All Long xs → All Long ys → Pairs Follow xs → Pairs Follow ys → All (λ m. All (Away m) ys) xs → Pairs Follow (merge xs ys)
-unfolding merge
-merge-pairs [] ys v w p q a = q
-merge-pairs (x ∷ xs) ys v w p q a = weave-pairs x xs (v .0) (v .1) (p .0) (λ zs u r b. merge-pairs xs zs (v .1) u (p .1) r b) ys w q (a .0) (a .1)
-
-pub follow-is : (m n : Note) → Follow m n → follows m n ≡ true
-unfolding follows
-follow-is m n (above a) = or-left (eqb (m .lane) (n .lane) && leb (m .end) (n .start)) (lt-ltb (m .lane) (n .lane) a)
-follow-is m n (later a b) = or-right (ltb (m .lane) (n .lane)) (and-yes (eq-eqb (m .lane) (n .lane) a) (le-leb (m .end) (n .start) b))
-
-first-is : (n : Note) (ns : List Note) → All (Follow n) ns → firstFollows n ns ≡ true
-unfolding firstFollows
-first-is n [] a = refl
-first-is n (m ∷ ms) a = follow-is n m (a .0)
-
-pub pairs-ok : (δ beats : ℕ) (ns : List Note) → All (Fair δ beats) ns → Pairs Follow ns → notesOk δ beats ns ≡ true
-unfolding notesOk
-pairs-ok δ beats [] f p = refl
-pairs-ok δ beats (n ∷ ns) f p = and-yes (and-yes (fair-ok δ beats n (f .0)) (first-is n ns (p .0))) (pairs-ok δ beats ns (f .1) (p .1))
-
--- ---- a sound take
-
--- What soundness says of a take, in numbers.
-pub record Solid (δ : ℕ) (t : Take) : Type 0 where
-  pub notes-fair : All (Fair δ (t .beats)) (t .inner)
-  pub notes-inside : All (λ n. inside δ n ≡ true) (t .inner)
-  pub notes-apart : Pairs Follow (t .inner)
-  pub cells-fine : All (Fine δ (t .beats)) (t .cells)
-  pub cells-pieced : Pieced δ (t .cells)
-  pub cells-apart : Pairs (Apart δ) (t .cells)
-  pub all-clear : All (λ n. All (Clear δ n) (t .cells)) (t .inner)
-
-pub inside-low : (δ : ℕ) (n : Note) → inside δ n ≡ true → firstBeat δ n * δ < n .start
-unfolding insideAt
-inside-low δ n e = ltb-true (n .start / δ * δ) (n .start) (and-left (ltb (n .start / δ * δ) (n .start)) _ e)
-
-pub inside-high : (δ : ℕ) (n : Note) → inside δ n ≡ true → n .end < suc (firstBeat δ n) * δ
-unfolding insideAt
-inside-high δ n e = ltb-true (n .end) (suc (n .start / δ) * δ) (and-right (ltb (n .start / δ * δ) (n .start)) _ e)
 
 module _ (H : Header) (z : 0 < (H .delta)) (le : (H .epsilon) ≤ (H .delta)) (t : Take) (s : Solid (H .delta) t) where
   line-is : lineNotes H (t .cells) ≡ walk H false (t .cells)

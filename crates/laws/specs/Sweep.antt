@@ -1,23 +1,23 @@
--- One sweep over the inner notes and the cells tells whether their pieces are clear of each other: each note looks at two cells.
+-- One sweep over the inner notes and the cells tells whether their pieces are clear of each other.
 -- Assumes nothing.
-use mathlib.Core.Path.{_≡_, refl, sym, ap, ap₂, _∙_, subst}
-use mathlib.Core.Bool.{Bool, true, false, cond, not, _&&_, _||_, true≢false}
+use mathlib.Core.Bool.{Bool, _&&_, _||_, false, true, true≢false}
 use mathlib.Core.List.{List, [], _∷_}
-use Prim.Native.Nat.{ℕ, zero, suc, _+_, _-_, _*_, _/_, _≤_, _<_}
+use mathlib.Core.Path.{_∙_, _≡_, ap, ap₂, refl, sym}
+use Prim.Native.Nat.{_<_, _≤_, ℕ}
 use native.Mathlib.Omega.{arith}
-use lib.Dec.{leb, ltb, eqb}
-use borrow.Author.Tests.{ltb-true, ltb-false, eqb-true, eqb-false, eq-eqb}
-use Rattle.laws.specs.Heal.{Follow, above, later}
-use Rattle.laws.specs.Inner.{All, and-left, and-right, and-yes}
-use Rattle.laws.specs.Lay.{all-imp, Pairs, div-mono}
-use Rattle.laws.specs.Order.{Apart, lane-up, beat-up, side-up, Clear}
-use Rattle.laws.specs.Shelf.{clear-is, every-yes}
-use Rattle.laws.specs.Chain.{clear}
-use Rattle.model.specs.Binding.{opening}
-use Rattle.model.specs.Lists.{keep, every}
+use lib.Dec.{eqb, ltb}
+use borrow.Author.Tests.{eq-eqb, eqb-true, ltb-false, ltb-true}
+use Rattle.model.specs.Lists.{every}
 use Rattle.model.specs.Pieces.{firstBeat}
 use Rattle.model.specs.declared.Cell.{Cell}
 use Rattle.model.specs.declared.Note.{Note}
+use Rattle.laws.specs.Beats.{div-mono}
+use Rattle.laws.specs.Booleans.{and-left, and-right}
+use Rattle.laws.specs.Chain.{clear}
+use Rattle.laws.specs.ChainSolid.{clear-is}
+use Rattle.laws.specs.Notes.{Follow, above, later}
+use Rattle.laws.specs.Relations.{All, Pairs, all-imp, every-yes}
+use Rattle.laws.specs.Solid.{Apart, beat-up, lane-up, side-up}
 
 -- The cell lies before beat b of lane l.
 unfoldable pub earlier : ℕ → ℕ → Cell → Bool

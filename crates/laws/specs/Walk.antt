@@ -1,129 +1,188 @@
--- Forms that a program's loops follow: notes from pieces with one note in hand, and a join as one walk over two lists.
+-- The notes of cells by one walk over them; bound pieces, and pieces that fill their beat, are shown.
 -- Assumes nothing.
-use mathlib.Core.Path.{_≡_, refl, sym, ap, ap₂, _∙_, subst}
-use mathlib.Core.Logic.{_≢_}
-use mathlib.Core.Bool.{Bool, true, false, cond, _&&_}
+use mathlib.Core.Bool.{Bool, _||_, cond, false, true, true≢false}
+use mathlib.Core.List.{List, [], _∷_}
 use mathlib.Core.Option.{Option, none, some}
-use mathlib.Core.List.{List, [], _∷_, _++_, append-assoc, append-nil}
-use Prim.Native.Nat.{ℕ, zero, suc, _+_, _≤_, _<_}
-use native.Mathlib.Decide.{ℕ-discrete}
+use mathlib.Core.Path.{_∙_, _≡_, ap, refl, sym}
+use Prim.Native.Nat.{_≤_, ℕ}
 use native.Mathlib.Omega.{arith}
-use lib.Dec.{leb, eqb}
-use borrow.Author.Tests.{le-leb, lt-leb, eq-eqb, ne-eqb, leb-true, leb-false}
-use Rattle.laws.specs.Inner.{All, all-append, keep-no}
-use Rattle.laws.specs.Lay.{all-imp, Pairs, bucket-step, buckets}
-use Rattle.laws.specs.Lists.{keep-append, gather-same}
-use Rattle.model.specs.Binding.{Piece, firstShown, goOn, runs}
-use Rattle.model.specs.Lists.{keep, consIf, gather, countFrom}
-use Rattle.model.specs.Takes.{lanes, byLane}
+use Rattle.model.specs.Binding.{Piece, boundNext, endOf, fills, firstShown, goOn, lineNotes, opening, pieces, runs, standsAlone, startOf}
+use Rattle.model.specs.declared.Cell.{Cell}
+use Rattle.model.specs.declared.Header.{Header}
 use Rattle.model.specs.declared.Note.{Note}
+use Rattle.laws.specs.Booleans.{and-yes, or-false, or-left, or-right}
+use Rattle.laws.specs.Rules.{Pair, Pieced, double, fill-close-alone, fill-open-alone, not-open, pair-close, pair-filled, pair-fills, single, step-fill, step-single, stop}
 
--- ---- notes from pieces, from left to right
+-- The cell's piece goes on in the next cell: they are one piece, or bound.
+unfoldable pub linked : Header → Cell → List Cell → Bool
+unfolding fills boundNext
+linked H c cs = fills (H .delta) c || boundNext H c cs
 
--- The note in hand with the piece behind it; the notes behind the note in hand.
-abbrev pub longer : Option Note → Note → Note
-longer none m = m
-longer (some n) m = record { lane = n .lane; start = n .start; end = m .end; velocity = n .velocity }
+-- A cell's own piece.
+unfoldable pub own : ℕ → Cell → Note
+unfolding startOf endOf
+own δ c = record { lane = c .lane; start = startOf δ c; end = endOf δ c; velocity = c .velocity }
 
-abbrev pub flush : Option Note → List Note → List Note
-flush none ns = ns
-flush (some n) ns = n ∷ ns
+-- The notes that the rules give; `held`: the first cell goes on from the one before it. A piece that is not linked on is shown if it is held or its cell stands alone.
+unfoldable pub walk : Header → Bool → List Cell → List Note
+unfolding linked standsAlone own
+walk H held [] = []
+walk H held (c ∷ cs) =
+    let on = linked H c cs in
+    let ns = walk H on cs in
+    cond on (goOn (own (H .delta) c) ns) (cond (standsAlone H c || held) (own (H .delta) c ∷ ns) ns)
 
--- The note in hand goes on as long as its pieces are shown and bound.
-unfoldable pub runsFrom : Option Note → List Piece → List Note
-runsFrom o [] = flush o []
-runsFrom o (p ∷ ps) = elim (p .shown) [
-  | true ↦ elim (p .joined) [ true ↦ runsFrom (some (longer o (p .note))) ps | false ↦ longer o (p .note) ∷ runsFrom none ps ]
-  | false ↦ flush o (runsFrom none ps)
+go-on-twice : (n m : Note) (ns : List Note)
+    → goOn n (goOn m ns) ≡ goOn (record { lane = n .lane; start = n .start; end = m .end; velocity = n .velocity }) ns
+go-on-twice n m [] = refl
+go-on-twice n m (k ∷ ks) = refl
+
+module _ (H : Header) (le : (H .epsilon) ≤ (H .delta)) where
+  -- what is bound to the cell before it is shown
+  pub held-shown : {c : Cell} {cs : List Cell} → Pieced (H .delta) (c ∷ cs) → firstShown (pieces H true (c ∷ cs)) ≡ true
+  held-shown {c} {cs} (single f g p) =
+      rw (step-single H c cs true f) (or-left (boundNext H c cs) (or-right (standsAlone H c) refl))
+  held-shown (double {c = c} {d = d} {cs = cs} q p) =
+      rw (step-fill H c d cs true (pair-fills (H .delta) c d q) (q .opens) (pair-close (H .delta) c d q))
+      (and-yes (or-right (standsAlone H c) refl) (or-left (boundNext H d cs) (fill-close-alone H le d (pair-filled (H .delta) c d q))))
+
+  next-shown : (c : Cell) (cs : List Cell) → Pieced (H .delta) cs → boundNext H c cs ≡ true → firstShown (pieces H true cs) ≡ true
+  unfolding boundNext
+  next-shown c [] p e = absurd (true≢false (sym e))
+  next-shown c (d ∷ ds) p e = held-shown p
+
+  -- the walk gives what pieces and runs give
+  pub walk-runs : {cs : List Cell} → Pieced (H .delta) cs → (left : Bool) → runs (pieces H left cs) ≡ walk H left cs
+  unfolding walk runs pieces
+  walk-runs stop left = refl
+  walk-runs (single {c = c} {cs = cs} f g p) left = go (boundNext H c cs) refl (walk-runs p (boundNext H c cs))
+    where
+      go : (b : Bool) → boundNext H c cs ≡ b → runs (pieces H (boundNext H c cs) cs) ≡ walk H (boundNext H c cs) cs → runs (pieces H left (c ∷ cs)) ≡ walk H left (c ∷ cs)
+      go true e ih = rw (step-single H c cs left f, f, e, or-right (standsAlone H c || left) {b = true} refl, next-shown c cs p e) (ap (goOn (own (H .delta) c)) (rw e at ih))
+      go false e ih = rw (step-single H c cs left f, f, e, or-false (standsAlone H c || left)) (ap (λ (ns : List Note). cond (standsAlone H c || left) (own (H .delta) c ∷ ns) ns) (rw e at ih))
+  walk-runs (double {c = c} {d = d} {cs = cs} q p) left = go (boundNext H d cs) refl (walk-runs p (boundNext H d cs))
+    where
+      sc : standsAlone H c ≡ true
+      sc = fill-open-alone H le c (pair-fills (H .delta) c d q)
+
+      sd : standsAlone H d ≡ true
+      sd = fill-close-alone H le d (pair-filled (H .delta) c d q)
+
+      go : (b : Bool) → boundNext H d cs ≡ b → runs (pieces H (boundNext H d cs) cs) ≡ walk H (boundNext H d cs) cs → runs (pieces H left (c ∷ d ∷ cs)) ≡ walk H left (c ∷ d ∷ cs)
+      go true e ih =
+          rw (step-fill H c d cs left (pair-fills (H .delta) c d q) (q .opens) (pair-close (H .delta) c d q), pair-fills (H .delta) c d q, not-open (H .delta) d (pair-close (H .delta) c d q), sc, sd, e, next-shown d cs p e)
+          (ap (goOn (record { lane = c .lane; start = startOf (H .delta) c; end = endOf (H .delta) d; velocity = c .velocity })) (rw e at ih) ∙ sym (go-on-twice (own (H .delta) c) (own (H .delta) d) (walk H true cs)))
+      go false e ih =
+          rw (step-fill H c d cs left (pair-fills (H .delta) c d q) (q .opens) (pair-close (H .delta) c d q), pair-fills (H .delta) c d q, not-open (H .delta) d (pair-close (H .delta) c d q), sc, sd, e)
+          (ap (_∷_ (record { lane = c .lane; start = startOf (H .delta) c; end = endOf (H .delta) d; velocity = c .velocity })) (rw e at ih))
+
+  pub line-walk : {cs : List Cell} → Pieced (H .delta) cs → lineNotes H cs ≡ walk H false cs
+  unfolding lineNotes
+  line-walk p = walk-runs p false
+
+  -- a piece that fills its beat is never hidden
+  pub fill-shown : (c d : Cell) (cs : List Cell) (left : Bool) → Pair (H .delta) c d → firstShown (pieces H left (c ∷ d ∷ cs)) ≡ true
+  fill-shown c d cs left q =
+      rw (step-fill H c d cs left (pair-fills (H .delta) c d q) (q .opens) (pair-close (H .delta) c d q))
+      (and-yes (or-left left (fill-open-alone H le c (pair-fills (H .delta) c d q))) (or-left (boundNext H d cs) (fill-close-alone H le d (pair-filled (H .delta) c d q))))
+
+  -- A piece bound to the next is shown, and so is the next.
+  abbrev pub Bound : List Piece → Type 0
+  Bound [] = Unit {0}
+  Bound (p ∷ ps) = (p .joined ≡ true → (p .shown ≡ true) × (firstShown ps ≡ true)) × Bound ps
+
+  pub bound-shown : {cs : List Cell} → Pieced (H .delta) cs → (left : Bool) → Bound (pieces H left cs)
+  bound-shown stop left = unfold pieces in tt
+  bound-shown (single {c = c} {cs = cs} f g p) left =
+      rw (step-single H c cs left f) ((λ e. (or-right (standsAlone H c || left) e, rw e (next-shown c cs p e))), bound-shown p (boundNext H c cs))
+  bound-shown (double {c = c} {d = d} {cs = cs} q p) left =
+      rw (step-fill H c d cs left (pair-fills (H .delta) c d q) (q .opens) (pair-close (H .delta) c d q))
+      ((λ e. (and-yes (or-left left (fill-open-alone H le c (pair-fills (H .delta) c d q))) (or-left (boundNext H d cs) (fill-close-alone H le d (pair-filled (H .delta) c d q))), rw e (next-shown d cs p e))), bound-shown p (boundNext H d cs))
+
+-- ---- the same walk from left to right, with the note in hand
+
+-- The note in hand with the cell's piece behind it.
+unfoldable pub grown : ℕ → Option Note → Cell → Note
+unfolding own
+grown δ none c = own δ c
+grown δ (some n) c = record { lane = n .lane; start = n .start; end = endOf δ c; velocity = n .velocity }
+
+-- Linked: the note stays in hand. Else it is written, if there was one in hand or the cell stands alone.
+abbrev pub inHand : Option Note → Bool
+inHand none = false
+inHand (some n) = true
+
+unfoldable pub walkFrom : Header → Option Note → List Cell → List Note
+unfolding grown linked standsAlone
+walkFrom H o [] = []
+walkFrom H o (c ∷ cs) = elim (linked H c cs) [
+  | true ↦ walkFrom H (some (grown (H .delta) o c)) cs
+  | false ↦ elim (standsAlone H c || inHand o) [ true ↦ grown (H .delta) o c ∷ walkFrom H none cs | false ↦ walkFrom H none cs ]
 ]
 
--- The same by `runs`.
-abbrev inHand : Option Note → List Piece → List Note
-inHand none ps = runs ps
-inHand (some n) ps = cond (firstShown ps) (goOn n (runs ps)) (n ∷ runs ps)
+-- The same by `walk`: the note in hand goes on in the first note.
+abbrev after : Option Note → List Note → List Note
+after none ns = ns
+after (some n) ns = goOn n ns
 
-go-on : (n m : Note) (b : Bool) (ns : List Note) → goOn n (cond b (goOn m ns) (m ∷ ns)) ≡ cond b (goOn (longer (some n) m) ns) (longer (some n) m ∷ ns)
-go-on n m true [] = refl
-go-on n m true (k ∷ ks) = refl
-go-on n m false ns = refl
+-- Nothing is linked behind the last cell.
+linked-last : (H : Header) (c : Cell) → Pieced (H .delta) (c ∷ []) → linked H c [] ≡ false
+unfolding linked boundNext
+linked-last H c (single f g p) = rw f
 
-pub runs-from : (ps : List Piece) (o : Option Note) → runsFrom o ps ≡ inHand o ps
-unfolding runsFrom runs
-runs-from [] none = refl
-runs-from [] (some n) = refl
-runs-from (p ∷ ps) o = go (p .shown) (p .joined) refl refl o (λ q. runs-from ps q)
-  where
-    go : (s j : Bool) → p .shown ≡ s → p .joined ≡ j → (o : Option Note) → ((q : Option Note) → runsFrom q ps ≡ inHand q ps) → runsFrom o (p ∷ ps) ≡ inHand o (p ∷ ps)
-    go true true e f none ih = rw (e, f, runsFrom) (ih (some (p .note)))
-    go true true e f (some n) ih = rw (e, f, runsFrom) (ih (some (longer (some n) (p .note))) ∙ sym (go-on n (p .note) (firstShown ps) (runs ps)))
-    go true false e f none ih = rw (e, f, runsFrom) (ap (_∷_ (p .note)) (ih none))
-    go true false e f (some n) ih = rw (e, f, runsFrom) (ap (_∷_ (longer (some n) (p .note))) (ih none))
-    go false j e f none ih = rw (e, runsFrom) (ih none)
-    go false j e f (some n) ih = rw (e, runsFrom) (ap (_∷_ n) (ih none))
+module _ (H : Header) where
+  -- what is left of cells in pieces: a list, or one that starts with the second cell of a piece
+  pub data Rest : List Cell → Type 0 where
+    whole : {cs : List Cell} → Pieced (H .delta) cs → Rest cs
+    half : {d : Cell} {cs : List Cell} → opening d ≡ false → Pieced (H .delta) cs → Rest (d ∷ cs)
 
--- ---- a join as one walk
+  rest-last : (c : Cell) → Rest (c ∷ []) → linked H c [] ≡ false
+  unfolding linked boundNext
+  rest-last c (whole p) = linked-last H c p
+  rest-last c (half e p) = rw (not-open (H .delta) c e)
 
-module _ {A : Type 0} (lane : A → ℕ) where
-  -- x before the second list's elements of higher lanes, and from there on `more`
-  unfoldable pub weaveLane : A → (List A → List A) → List A → List A
-  weaveLane x more [] = x ∷ more []
-  weaveLane x more (y ∷ ys) = elim (leb (lane x) (lane y)) [ true ↦ x ∷ more (y ∷ ys) | false ↦ y ∷ weaveLane x more ys ]
+  rest-more : {c d : Cell} {cs : List Cell} → Rest (c ∷ d ∷ cs) → Rest (d ∷ cs)
+  rest-more (whole (single f g p)) = whole p
+  rest-more (whole (double {c = c} {d = d} q p)) = half (pair-close (H .delta) c d q) p
+  rest-more (half e p) = whole p
 
-  -- Two lists in the order of lanes as one: the first's elements first in each lane.
-  unfoldable pub mergeLane : List A → List A → List A
-  unfolding weaveLane
-  mergeLane [] ys = ys
-  mergeLane (x ∷ xs) ys = weaveLane x (λ zs. mergeLane xs zs) ys
+  grown-on : (o : Option Note) (c : Cell) (ns : List Note) → after (some (grown (H .delta) o c)) ns ≡ after o (goOn (own (H .delta) c) ns)
+  unfolding grown own
+  grown-on none c [] = refl
+  grown-on none c (n ∷ ns) = refl
+  grown-on (some m) c [] = refl
+  grown-on (some m) c (n ∷ ns) = refl
 
-  abbrev Lanes : List A → Type 0
-  Lanes xs = Pairs (λ x y. lane x ≤ lane y) xs × All (λ x. lane x < 2048) xs
+  grown-end : (o : Option Note) (c : Cell) (ns : List Note) → grown (H .delta) o c ∷ ns ≡ after o (own (H .delta) c ∷ ns)
+  unfolding grown own
+  grown-end none c ns = refl
+  grown-end (some m) c ns = refl
 
-  -- the least lane's first element comes first
-  first-lane : (x : A) (xs : List A) → lane x < 2048 → All (λ y. lane x ≤ lane y) xs → byLane lane (x ∷ xs) ≡ x ∷ byLane lane xs
-  unfolding byLane
-  first-lane x xs b a = bucket-step lane x xs 2048 0 (omega arith) (omega arith) a
-
-  front : (zs : List A) (y : A) (ys : List A) → All (λ z. lane y < lane z) zs → byLane lane (zs ++ y ∷ ys) ≡ byLane lane (y ∷ (zs ++ ys))
-  unfolding byLane
-  front zs y ys a = gather-same (λ l. keep (λ x. eqb (lane x) l) (zs ++ y ∷ ys)) (λ l. keep (λ x. eqb (lane x) l) (y ∷ (zs ++ ys))) lanes one
+  from-step : (o : Option Note) (c : Cell) (cs : List Cell)
+      → (linked H c cs ≡ true → (n : Note) → walkFrom H (some n) cs ≡ goOn n (walk H true cs)) → walkFrom H none cs ≡ walk H false cs
+      → walkFrom H o (c ∷ cs) ≡ after o (walk H (inHand o) (c ∷ cs))
+  unfolding walkFrom walk
+  from-step o c cs f g = go (linked H c cs) refl (standsAlone H c || inHand o) refl
     where
-      one : (l : ℕ) → keep (λ x. eqb (lane x) l) (zs ++ y ∷ ys) ≡ keep (λ x. eqb (lane x) l) (y ∷ (zs ++ ys))
-      one l = elim (ℕ-discrete (lane y) l) [
-        | yes e ↦ rw (
-          keep-append (λ x. eqb (lane x) l) zs (y ∷ ys),
-          keep-append (λ x. eqb (lane x) l) zs ys,
-          eq-eqb (lane y) l e,
-          keep-no (λ x. eqb (lane x) l) zs (all-imp (λ z. lane y < lane z) (λ z. eqb (lane z) l ≡ false) zs (λ z h. ne-eqb (lane z) l (omega arith)) a),
-        )
-        | no d ↦ rw (keep-append (λ x. eqb (lane x) l) zs (y ∷ ys), keep-append (λ x. eqb (lane x) l) zs ys, ne-eqb (lane y) l d)
-      ]
+      none-held : (o : Option Note) → standsAlone H c || inHand o ≡ false → walk H false cs ≡ after o (walk H false cs)
+      none-held none e = refl
+      none-held (some n) e = absurd (true≢false (sym (or-right (standsAlone H c) refl) ∙ e))
 
-  sorted-byLane : (xs : List A) → Lanes xs → byLane lane xs ≡ xs
-  unfolding byLane
-  sorted-byLane xs s = buckets lane xs 2048 (s .0) (s .1)
+      go : (b : Bool) → linked H c cs ≡ b → (t : Bool) → standsAlone H c || inHand o ≡ t → walkFrom H o (c ∷ cs) ≡ after o (walk H (inHand o) (c ∷ cs))
+      go true e t h = rw (e, walkFrom) (f e (grown (H .delta) o c) ∙ grown-on o c (walk H true cs))
+      go false e true h = rw (e, h, walkFrom) (ap (_∷_ (grown (H .delta) o c)) g ∙ grown-end o c (walk H false cs))
+      go false e false h = rw (e, h, walkFrom) (g ∙ none-held o h)
 
-  all-above : (x : A) (y : A) (ys : List A) → lane x ≤ lane y → All (λ z. lane y ≤ lane z) ys → All (λ z. lane x ≤ lane z) (y ∷ ys)
-  all-above x y ys h a = (h, all-imp (λ z. lane y ≤ lane z) (λ z. lane x ≤ lane z) ys (λ z b. omega arith) a)
-
-  weave-is : (x : A) (xs : List A) → Lanes (x ∷ xs) → ((ys : List A) → Lanes ys → mergeLane xs ys ≡ byLane lane (xs ++ ys))
-      → (ys : List A) → Lanes ys → weaveLane x (λ zs. mergeLane xs zs) ys ≡ byLane lane (x ∷ (xs ++ ys))
-  unfolding weaveLane
-  weave-is x xs s f [] t = ap (_∷_ x) (f [] t) ∙ sym (first-lane x (xs ++ []) (s .1 .0) (rw append-nil (s .0 .0)))
-  weave-is x xs s f (y ∷ ys) t = go (leb (lane x) (lane y)) refl (weave-is x xs s f ys (t .0 .1, t .1 .1))
+  pub from-walk : (cs : List Cell) (o : Option Note) → Rest cs → (cs ≡ [] → o ≡ none) → walkFrom H o cs ≡ after o (walk H (inHand o) cs)
+  from-walk [] o r h = rw (h refl) (unfold walkFrom walk in refl)
+  from-walk (c ∷ []) o r h =
+      from-step o c [] (λ e n. absurd (true≢false (sym e ∙ rest-last c r))) (from-walk [] none (whole stop) (λ e. refl))
+  from-walk (c ∷ d ∷ cs) o r h =
+      from-step o c (d ∷ cs) (λ e n. from-walk (d ∷ cs) (some n) (rest-more r) (λ k. absurd (not-nil k))) (from-walk (d ∷ cs) none (rest-more r) (λ k. refl))
     where
-      go : (b : Bool) → leb (lane x) (lane y) ≡ b → weaveLane x (λ zs. mergeLane xs zs) ys ≡ byLane lane (x ∷ (xs ++ ys))
-          → weaveLane x (λ zs. mergeLane xs zs) (y ∷ ys) ≡ byLane lane (x ∷ (xs ++ y ∷ ys))
-      go true e ih =
-          let h : lane x ≤ lane y = leb-true (lane x) (lane y) e in
-          rw (e, weaveLane) (ap (_∷_ x) (f (y ∷ ys) t)
-          ∙ sym (first-lane x (xs ++ y ∷ ys) (s .1 .0) (all-append (λ z. lane x ≤ lane z) xs (y ∷ ys) (s .0 .0) (all-above x y ys h (t .0 .0)))))
-      go false e ih =
-          let h : lane y < lane x = leb-false (lane x) (lane y) e in
-          rw (e, weaveLane) (ap (_∷_ y) ih ∙ sym (front (x ∷ xs) y ys (h, all-imp (λ z. lane x ≤ lane z) (λ z. lane y < lane z) xs (λ z b. omega arith) (s .0 .0))
-          ∙ first-lane y (x ∷ (xs ++ ys)) (t .1 .0) (all-append (λ z. lane y ≤ lane z) (x ∷ xs) ys (all-above y x xs (omega arith) (s .0 .0)) (t .0 .0))))
+      not-nil : d ∷ cs ≡ [] → ⊥
+      not-nil k = let zz : _≡_ {A = ℕ} 0 1 = cc in omega arith
 
-  -- two lists in the order of lanes, joined, are one walk over both
-  pub merge-lane : (xs ys : List A) → Lanes xs → Lanes ys → mergeLane xs ys ≡ byLane lane (xs ++ ys)
-  unfolding mergeLane
-  merge-lane [] ys s t = sym (sorted-byLane ys t)
-  merge-lane (x ∷ xs) ys s t = weave-is x xs s (λ zs u. merge-lane xs zs (s .0 .1, s .1 .1) u) ys t
+-- the notes of cells in pieces, from left to right
+pub line-from : (H : Header) → (H .epsilon) ≤ (H .delta) → {cs : List Cell} → Pieced (H .delta) cs → lineNotes H cs ≡ walkFrom H none cs
+line-from H le {cs} p = line-walk H le p ∙ sym (from-walk H cs none (whole p) (λ e. refl))

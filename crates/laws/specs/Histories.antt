@@ -1,66 +1,24 @@
 -- Split and join of what a history gives: the first k pairs, the others, and one history behind the other.
 -- Assumes nothing.
-use mathlib.Core.Path.{_≡_, refl, sym, ap, ap₂, _∙_}
-use mathlib.Core.Logic.{_≢_}
-use mathlib.Core.Bool.{Bool, true, false, cond, _&&_}
-use mathlib.Core.List.{List, [], _∷_, _++_, map, map-map, append-assoc}
-use Prim.Native.Nat.{ℕ, zero, suc, _+_, _-_, _*_, _/_, _%_, _≤_, _<_, suc-le-suc}
-use native.Mathlib.Nat.{add-zero, add-suc, suc-add, zero-add, mul-add-div-right, mul-add-mod-self-right, mod-mod, mod-lt, div-eq-of-lt}
+use mathlib.Core.Bool.{Bool, false, true}
+use mathlib.Core.List.{List, [], _++_, _∷_, append-assoc, map}
+use mathlib.Core.Path.{_∙_, _≡_, ap, refl, sym}
+use Prim.Native.Nat.{_+_, _-_, _<_, _≤_, suc, zero, ℕ}
+use native.Mathlib.Nat.{add-suc, add-zero, suc-add, zero-add}
 use native.Mathlib.Omega.{arith}
-use lib.Dec.{leb, ltb, eqb}
-use lib.ListN.{length, take, drop, length-append, length-take, length-drop}
-use borrow.Author.Tests.{lt-ltb, le-ltb, le-leb, lt-leb, eq-eqb, ne-eqb, eqb-true}
-use Rattle.laws.specs.Lists.{keep-append, keep-same, keep-keep, keep-ext, keep-swap, keep-map, keep-gather, map-append, map-gather, gather-same, gather-count, gather-one}
-use Rattle.model.specs.Histories.{Recording, placed, takeOf, historyTake}
-use Rattle.model.specs.Lists.{keep, gather, countFrom}
+use lib.Dec.{eqb, leb, ltb}
+use lib.ListN.{List·getD-append, drop, length, length-append, length-drop, length-take, take}
+use borrow.Author.Tests.{le-leb, le-ltb, lt-leb, lt-ltb}
+use Rattle.model.specs.Histories.{Recording, historyTake, placed, recordingTake, takeOf}
+use Rattle.model.specs.Lists.{keep}
 use Rattle.model.specs.Pieces.{firstBeat}
-use Rattle.model.specs.Takes.{Take, cellTo, noteTo, lanes, byLane, leftOf, rightOf, laterBy, splitLeft, splitRight, joinTakes}
+use Rattle.model.specs.Takes.{Take, byLane, cellTo, joinTakes, laterBy, leftOf, noteTo, rightOf, splitLeft, splitRight}
 use Rattle.model.specs.declared.Cell.{Cell}
 use Rattle.model.specs.declared.Note.{Note}
-
--- ---- the order of lanes
-
-and-same : (a : Bool) → a && a ≡ a
-and-same true = refl
-and-same false = refl
-
-two-lanes : (n l m : ℕ) → l ≢ m → eqb n l && eqb n m ≡ false
-two-lanes n l m d = go (eqb n l) refl
-  where
-    go : (t : Bool) → eqb n l ≡ t → t && eqb n m ≡ false
-    go true e = ne-eqb n m (λ f. d (sym (eqb-true n l e) ∙ f))
-    go false e = refl
-
-module _ {A : Type 0} (lane : A → ℕ) where
-  pub keep-byLane : (p : A → Bool) (xs : List A) → keep p (byLane lane xs) ≡ byLane lane (keep p xs)
-  unfolding byLane
-  keep-byLane p xs =
-      keep-gather p (λ l. keep (λ x. eqb (lane x) l) xs) lanes
-      ∙ gather-same _ _ lanes (λ l. keep-swap p (λ x. eqb (lane x) l) xs)
-
-  pub map-byLane : (f : A → A) (xs : List A) → ((x : A) → lane (f x) ≡ lane x) → map f (byLane lane xs) ≡ byLane lane (map f xs)
-  unfolding byLane
-  map-byLane f xs h =
-      map-gather f (λ l. keep (λ x. eqb (lane x) l) xs) lanes
-      ∙ gather-same _ _ lanes (λ l. sym (keep-map (λ x. eqb (lane x) l) f xs ∙ ap (map f) (keep-ext (λ x. eqb (lane (f x)) l) (λ x. eqb (lane x) l) xs (λ x. rw (h x)))))
-
-  -- one lane is as it was
-  pub lane-byLane : (l : ℕ) (xs : List A) → l < 2048 → keep (λ x. eqb (lane x) l) (byLane lane xs) ≡ keep (λ x. eqb (lane x) l) xs
-  unfolding byLane
-  lane-byLane l xs b =
-      keep-gather (λ x. eqb (lane x) l) (λ m. keep (λ x. eqb (lane x) m) xs) lanes
-      ∙ gather-one (λ m. keep (λ x. eqb (lane x) l) (keep (λ x. eqb (lane x) m) xs)) 2048 0 l (omega arith) (omega arith)
-      (λ m d. keep-keep (λ x. eqb (lane x) l) (λ x. eqb (lane x) m) xs ∙ keep-same _ false xs (λ x. two-lanes (lane x) m l d))
-      ∙ keep-keep (λ x. eqb (lane x) l) (λ x. eqb (lane x) l) xs ∙ keep-ext _ _ xs (λ x. and-same (eqb (lane x) l))
-
-  -- to order the parts first changes nothing
-  pub byLane-append : (xs ys : List A) → byLane lane (byLane lane xs ++ byLane lane ys) ≡ byLane lane (xs ++ ys)
-  unfolding byLane
-  byLane-append xs ys =
-      gather-count (λ l. keep (λ x. eqb (lane x) l) (byLane lane xs ++ byLane lane ys)) (λ l. keep (λ x. eqb (lane x) l) (xs ++ ys)) 2048 0
-      (λ l a b. let c : l < 2048 = omega arith in
-      keep-append (λ x. eqb (lane x) l) (byLane lane xs) (byLane lane ys)
-      ∙ ap₂ _++_ (lane-byLane l xs c) (lane-byLane l ys c) ∙ sym (keep-append (λ x. eqb (lane x) l) xs ys))
+use Rattle.laws.specs.Beats.{note-beat, note-to}
+use Rattle.laws.specs.Lanes.{byLane-append, keep-byLane, map-byLane}
+use Rattle.laws.specs.Lists.{keep-append, map-append}
+use Rattle.laws.specs.Relations.{All, all-imp}
 
 -- ---- places
 
@@ -167,14 +125,6 @@ module _ {A : Type 0} (beat : A → ℕ) (to : ℕ → A → A)
 
 -- ---- the two kinds: cells and inner notes
 
-pub note-beat : (δ : ℕ) → 0 < δ → (i : ℕ) (n : Note) → firstBeat δ (noteTo δ i n) ≡ i
-note-beat δ z i n = rw (mul-add-div-right z i (n .start % δ), div-eq-of-lt (mod-lt (n .start) z), add-zero)
-
-pub note-to : (δ : ℕ) (i j : ℕ) (n : Note) → noteTo δ i (noteTo δ j n) ≡ noteTo δ i n
-note-to δ i j n =
-    let e : j * δ + n .start % δ + (n .end - n .start) - (j * δ + n .start % δ) ≡ n .end - n .start = omega arith in
-    rw (mul-add-mod-self-right j δ (n .start % δ), mod-mod, e)
-
 pub take-same : {n m : ℕ} {a b : List Note} {c d : List Cell} → n ≡ m → a ≡ b → c ≡ d
     → _≡_ {A = Take} (record { beats = n; inner = a; cells = c }) (record { beats = m; inner = b; cells = d })
 take-same p q r = λ i. record { beats = p i; inner = q i; cells = r i }
@@ -209,3 +159,26 @@ module _ (δ : ℕ) (z : 0 < δ) (recordings : List Recording) where
       take-same (sym (length-append h g))
       (join-all (firstBeat δ) (noteTo δ) (note-beat δ z) (note-to δ) inners (λ n. n .lane) (λ i n. refl) h g)
       (join-all (λ c. c .beat) cellTo (λ i c. refl) (λ i j c. refl) cellLists (λ c. c .lane) (λ i c. refl) h g)
+
+-- ---- later recordings change nothing
+
+placed-agree : {A : Type 0} (beat : A → ℕ) (to : ℕ → A → A) (of up : ℕ → List A) (i : ℕ) (h : List (ℕ × ℕ)) → All (λ p. of (p .0) ≡ up (p .0)) h
+    → placed beat to of i h ≡ placed beat to up i h
+unfolding placed
+placed-agree beat to of up i [] a = refl
+placed-agree beat to of up i (p ∷ h) a = rw (a .0, placed-agree beat to of up (suc i) h (a .1))
+
+take-kept : (δ : ℕ) (recordings more : List Recording) (k : ℕ) → k < length recordings → takeOf δ (recordings ++ more) k ≡ takeOf δ recordings k
+unfolding takeOf
+take-kept δ recordings more k b = ap (recordingTake δ) (List·getD-append recordings more (record { beats = 0; notes = [] }) k b)
+
+pub grow : (δ : ℕ) (recordings more : List Recording) (h : List (ℕ × ℕ)) → All (λ p. p .0 < length recordings) h
+    → historyTake δ (recordings ++ more) h ≡ historyTake δ recordings h
+unfolding historyTake
+grow δ recordings more h a =
+    let same : (p : ℕ × ℕ) → p .0 < length recordings → takeOf δ (recordings ++ more) (p .0) ≡ takeOf δ recordings (p .0) = λ p b. take-kept δ recordings more (p .0) b in
+    take-same refl
+    (ap (byLane (λ (n : Note). n .lane)) (placed-agree (firstBeat δ) (noteTo δ) (λ k. (takeOf δ (recordings ++ more) k) .inner) (λ k. (takeOf δ recordings k) .inner) 0 h
+    (all-imp (λ p. p .0 < length recordings) (λ p. (takeOf δ (recordings ++ more) (p .0)) .inner ≡ (takeOf δ recordings (p .0)) .inner) h (λ p b. ap (λ (t : Take). t .inner) (same p b)) a)))
+    (ap (byLane (λ (c : Cell). c .lane)) (placed-agree (λ (c : Cell). c .beat) cellTo (λ k. (takeOf δ (recordings ++ more) k) .cells) (λ k. (takeOf δ recordings k) .cells) 0 h
+    (all-imp (λ p. p .0 < length recordings) (λ p. (takeOf δ (recordings ++ more) (p .0)) .cells ≡ (takeOf δ recordings (p .0)) .cells) h (λ p b. ap (λ (t : Take). t .cells) (same p b)) a)))

@@ -1,29 +1,28 @@
--- A valid recording's take is solid.
+-- The cells of one note, and of a recording: a valid recording's take is solid.
 -- Assumes nothing.
-use mathlib.Core.Path.{_≡_, refl, sym, ap, ap₂, _∙_, subst}
-use mathlib.Core.Logic.{_≢_}
-use mathlib.Core.Bool.{Bool, true, false, cond, not, _&&_, _||_, true≢false}
-use mathlib.Core.List.{List, [], _∷_, _++_, map}
-use Prim.Native.Nat.{ℕ, zero, suc, _+_, _-_, _*_, _/_, _%_, _≤_, _<_}
-use native.Mathlib.Nat.{mul-le-mul-right, div-mul-le-self, lt-div-mul-add, div-lt-iff-lt-mul, le-div-iff-mul-le}
+use mathlib.Core.Bool.{Bool, false, true, true≢false}
+use mathlib.Core.List.{List, [], _++_, _∷_}
+use mathlib.Core.Path.{_∙_, _≡_, ap, refl, sym}
+use Prim.Native.Nat.{_*_, _+_, _-_, _/_, _<_, _≤_, suc, zero, ℕ}
 use native.Mathlib.Decide.{decLe, ℕ-discrete}
+use native.Mathlib.Nat.{mul-le-mul-right}
 use native.Mathlib.Omega.{arith}
-use lib.Dec.{leb, ltb, eqb}
-use borrow.Author.Tests.{lt-ltb, le-ltb, le-leb, lt-leb, eq-eqb, ne-eqb, eqb-true, eqb-false, leb-true, leb-false, ltb-true, ltb-false}
-use Rattle.laws.specs.Heal.{Follow, above, later, low, high, no-cells}
-use Rattle.laws.specs.Inner.{All, all-append, all-consIf, all-keep, all-kept, and-left, and-right, and-yes}
-use Rattle.laws.specs.Lay.{all-imp, Pairs, pairs-keep, pairs-append, all-all, all-count, In, in-beat, div-mono, ok-pairs}
-use Rattle.laws.specs.Order.{Fair, fair, Fine, Apart, lane-up, beat-up, side-up, Clear, Solid, inside-low, inside-high}
-use Rattle.laws.specs.Rules.{Pair, Pieced, stop, single, double}
-use Rattle.model.specs.Binding.{opening, fills}
+use lib.Dec.{leb}
+use borrow.Author.Tests.{eq-eqb, le-leb, leb-false, leb-true, lt-leb, ne-eqb}
+use Rattle.model.specs.Binding.{fills}
 use Rattle.model.specs.Histories.{Recording, recordingTake}
 use Rattle.model.specs.Limits.{velocityOk}
-use Rattle.model.specs.Lists.{consIf, keep, gather, countFrom}
-use Rattle.model.specs.Pieces.{firstBeat, insideAt, inside, cellAt, cellsInBeat, cellsOfNote}
-use Rattle.model.specs.Soundness.{noteOk, firstFollows, notesOk, filled}
-use Rattle.model.specs.Takes.{Take}
+use Rattle.model.specs.Lists.{consIf, countFrom, gather, keep}
+use Rattle.model.specs.Pieces.{cellAt, cellsInBeat, cellsOfNote, firstBeat, inside}
+use Rattle.model.specs.Soundness.{filled, notesOk}
 use Rattle.model.specs.declared.Cell.{Cell}
 use Rattle.model.specs.declared.Note.{Note}
+use Rattle.laws.specs.Beats.{div-mono, high, inside-high, inside-low, low}
+use Rattle.laws.specs.Healing.{no-cells}
+use Rattle.laws.specs.Notes.{Fair, Follow, above, fair-notes, later, ok-pairs}
+use Rattle.laws.specs.Relations.{All, Pairs, all-all, all-append, all-consIf, all-count, all-imp, all-keep, all-kept, pairs-append, pairs-keep}
+use Rattle.laws.specs.Rules.{Pair, Pieced, double, single, stop}
+use Rattle.laws.specs.Solid.{Apart, Clear, Fine, Solid, beat-up, lane-up, side-up}
 
 -- ---- what keeps cells in pieces
 
@@ -72,6 +71,12 @@ record CloseOf (δ : ℕ) (n : Note) (c : Cell) : Type 0 where
 data Of (δ : ℕ) (n : Note) (c : Cell) : Type 0 where
   opens : OpenOf δ n c → Of δ n c
   closes : CloseOf δ n c → Of δ n c
+
+-- A cell of the note, in beats from low to high.
+record In (n : Note) (low high : ℕ) (c : Cell) : Type 0 where
+  lane-is : c .lane ≡ n .lane
+  from : low ≤ c .beat
+  upto : c .beat ≤ high
 
 module _ (δ : ℕ) (z : 0 < δ) where
   -- the ticks of the beats that a note has pieces in
@@ -159,6 +164,14 @@ module _ (δ : ℕ) (z : 0 < δ) where
   pieced-notes [] v = stop
   pieced-notes (n ∷ ns) v = pieced-append δ (pieced-note n (v .0)) (pieced-notes ns (v .1))
 
+  in-beat : (n : Note) (low high b : ℕ) → low ≤ b → b ≤ high → All (In n low high) (cellsInBeat δ n b)
+  unfolding cellsInBeat
+  in-beat n low high b h k =
+      let i : In n low high (cellAt n b 0 (b * δ)) = record { lane-is = refl; from = h; upto = k } in
+      let j : In n low high (cellAt n b 1 (suc b * δ)) = record { lane-is = refl; from = h; upto = k } in
+      all-consIf (In n low high) (leb (n .start) (b * δ)) (cellAt n b 0 (b * δ)) _ (λ e. i)
+      (all-consIf (In n low high) (leb (suc b * δ) (n .end)) (cellAt n b 1 (suc b * δ)) [] (λ e. j) tt)
+
   -- order within a note
   apart-beat : (n : Note) (b : ℕ) → Pairs (Apart δ) (cellsInBeat δ n b)
   unfolding cellsInBeat fills
@@ -178,8 +191,8 @@ module _ (δ : ℕ) (z : 0 < δ) where
       pairs-append (Apart δ) (cellsInBeat δ n i) (gather (cellsInBeat δ n) (countFrom k (suc i))) (apart-beat n i) (apart-count n k (suc i))
       (all-all (In n i i) (In n (suc i) (i + k)) (Apart δ) (cellsInBeat δ n i) (gather (cellsInBeat δ n) (countFrom k (suc i)))
       (λ c d p q. let a = p .lane-is in let b = q .lane-is in let e = p .upto in let f = q .from in beat-up (omega arith) (omega arith))
-      (in-beat δ z n i i i (omega arith) (omega arith))
-      (all-count (In n (suc i) (i + k)) (cellsInBeat δ n) k (suc i) (λ b c d. in-beat δ z n (suc i) (i + k) b (omega arith) (omega arith))))
+      (in-beat n i i i (omega arith) (omega arith))
+      (all-count (In n (suc i) (i + k)) (cellsInBeat δ n) k (suc i) (λ b c d. in-beat n (suc i) (i + k) b (omega arith) (omega arith))))
 
   apart-note : (n : Note) → Pairs (Apart δ) (cellsOfNote δ n)
   unfolding cellsOfNote
@@ -291,21 +304,13 @@ module _ (δ : ℕ) (z : 0 < δ) where
               (all-append (Clear δ m) (cellsOfNote δ n) (gather (cellsOfNote δ) ns) (all-imp (Of δ n) (Clear δ m) (cellsOfNote δ n) (λ c o. clear-before m n c e (w .0) (f .0) o) (of-note n (v .0))) (k .0), r (k .1))
           go false e k r = r k
 
-  pub fair-notes : (beats : ℕ) (ns : List Note) → notesOk δ beats ns ≡ true → All (Fair δ beats) ns
-  unfolding notesOk
-  fair-notes beats [] e = tt
-  fair-notes beats (n ∷ ns) e = (
-    fair δ beats n (and-left (noteOk δ beats n) (firstFollows n ns) (and-left (noteOk δ beats n && firstFollows n ns) (notesOk δ beats ns) e)),
-    fair-notes beats ns (and-right (noteOk δ beats n && firstFollows n ns) (notesOk δ beats ns) e),
-  )
-
   -- a valid recording's take is solid
   pub solid-recording : (r : Recording) → r .beats ≤ 4096 → notesOk δ (r .beats) (r .notes) ≡ true → Solid δ (recordingTake δ r)
   unfolding recordingTake
   solid-recording r w e =
-      let f : All (Fair δ (r .beats)) (r .notes) = fair-notes (r .beats) (r .notes) e in
+      let f : All (Fair δ (r .beats)) (r .notes) = fair-notes δ (r .beats) (r .notes) e in
       let v : All (λ (n : Note). n .start < n .end) (r .notes) = all-imp (Fair δ (r .beats)) (λ n. n .start < n .end) (r .notes) (λ n k. k .order) f in
-      let s : Pairs Follow (r .notes) = ok-pairs δ z (r .beats) (r .notes) e in
+      let s : Pairs Follow (r .notes) = ok-pairs δ (r .beats) (r .notes) e in
       record {
         notes-fair = all-keep (Fair δ (r .beats)) (inside δ) (r .notes) f;
         notes-inside = all-kept (inside δ) (r .notes);

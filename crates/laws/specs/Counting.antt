@@ -1,31 +1,34 @@
 -- A split of a sound shelf always fits: each half has at most the shelf's notes and cells.
 -- Assumes nothing.
-use mathlib.Core.Path.{_≡_, refl, sym, ap, ap₂, _∙_, subst}
-use mathlib.Core.Bool.{Bool, true, false, cond, not, _&&_, _||_, true≢false}
-use mathlib.Core.List.{List, [], _∷_, _++_, map}
-use Prim.Native.Nat.{ℕ, zero, suc, _+_, _-_, _*_, _≤_, _<_}
+use mathlib.Core.Bool.{Bool, _&&_, _||_, cond, false, true, true≢false}
+use mathlib.Core.List.{List, [], _∷_, map}
+use mathlib.Core.Path.{_∙_, _≡_, ap, ap₂, refl, sym}
+use Prim.Native.Nat.{_*_, _+_, _-_, _<_, _≤_, suc, zero, ℕ}
 use native.Mathlib.Decide.{ℕ-discrete}
 use native.Mathlib.Omega.{arith}
-use lib.Dec.{leb, ltb, eqb}
-use lib.ListN.{length, drop}
-use borrow.Author.Tests.{lt-ltb, le-ltb, le-leb, lt-leb, eq-eqb, ne-eqb, eqb-true, leb-true, ltb-true}
-use Rattle.laws.specs.Back.{Parts, parts, sound-solid, sound-notes, length-read, length-cells}
-use Rattle.laws.specs.Heal.{or-left, or-right}
-use Rattle.laws.specs.Inner.{All, all-keep, all-kept, and-left, and-right, and-yes}
-use Rattle.laws.specs.Lay.{all-imp, Pairs}
-use Rattle.laws.specs.Order.{Apart, lane-up, beat-up, side-up, Solid, whole, walk-single, walk-double}
-use Rattle.laws.specs.Reach.{solid-left, solid-right}
-use Rattle.laws.specs.Rules.{Pair, Pieced, stop, single, double, linked, own, walk, line-walk}
-use Rattle.laws.specs.Solo.{pieced-keep}
-use Rattle.laws.specs.Chain.{chainShelf}
-use Rattle.model.specs.Binding.{opening, standsAlone, meet, bound, boundNext, fills, startOf, endOf, goOn, lineNotes}
-use Rattle.model.specs.Lists.{consIf, keep, gather}
+use lib.Dec.{eqb, leb, ltb}
+use lib.ListN.{drop, length}
+use borrow.Author.Tests.{eq-eqb, eqb-true, le-leb, leb-true, lt-ltb, ltb-true, ne-eqb}
+use Rattle.model.specs.Binding.{bound, boundNext, fills, goOn, lineNotes, meet, standsAlone}
+use Rattle.model.specs.Lists.{consIf, keep}
 use Rattle.model.specs.Pieces.{firstBeat}
 use Rattle.model.specs.Questions.{fits}
-use Rattle.model.specs.Takes.{Take, noteBefore, weave, merge, notesOf, cellTo, noteTo, leftOf, rightOf, splitLeft, splitRight, word, readNotes, takeIn}
+use Rattle.model.specs.Takes.{Take, cellTo, leftOf, noteTo, notesOf, rightOf, splitLeft, splitRight, takeIn, word}
 use Rattle.model.specs.declared.Cell.{Cell}
-use Rattle.model.specs.declared.Note.{Note}
 use Rattle.model.specs.declared.Header.{Header}
+use Rattle.model.specs.declared.Note.{Note}
+use Rattle.laws.specs.Booleans.{and-left, and-right, and-yes, or-right}
+use Rattle.laws.specs.Chain.{chainShelf}
+use Rattle.laws.specs.ChainSolid.{Parts, parts, sound-notes, sound-solid}
+use Rattle.laws.specs.Lists.{length-keep, length-map}
+use Rattle.laws.specs.Merging.{length-merge}
+use Rattle.laws.specs.Moving.{solid-left, solid-right}
+use Rattle.laws.specs.Order.{walk-double, walk-single, whole}
+use Rattle.laws.specs.Reading.{length-cells, length-read}
+use Rattle.laws.specs.Relations.{All, Pairs, all-imp, all-keep, all-kept}
+use Rattle.laws.specs.Rules.{Pair, Pieced, double, single, stop}
+use Rattle.laws.specs.Solid.{Apart, Solid, beat-up, lane-up, side-up}
+use Rattle.laws.specs.Walk.{line-walk, linked, own, walk}
 
 -- ---- how many notes a piece adds
 
@@ -287,32 +290,6 @@ module _ (H : Header) (k : ℕ) where
       ∙ ap (count (linked H c cs) (standsAlone H c || held)) (walk-back cs (linked H c cs) (a .1)) ∙ sym (length-walk c cs held)
 
 -- ---- takes
-
-length-keep : {A : Type 0} (p : A → Bool) (xs : List A) → length (keep p xs) ≤ length xs
-length-keep p [] = omega arith
-length-keep p (x ∷ xs) = go (p x) (length-keep p xs)
-  where
-    go : (b : Bool) → length (keep p xs) ≤ length xs → length (consIf b x (keep p xs)) ≤ suc (length xs)
-    go true h = omega arith
-    go false h = omega arith
-
-length-map : {A B : Type 0} (f : A → B) (xs : List A) → length (map f xs) ≡ length xs
-length-map f [] = refl
-length-map f (x ∷ xs) = ap suc (length-map f xs)
-
-length-weave : (x : Note) (n : ℕ) (more : List Note → List Note) → ((ys : List Note) → length (more ys) ≡ n + length ys) → (ys : List Note) → length (weave x more ys) ≡ suc n + length ys
-unfolding weave
-length-weave x n more f [] = let e = f [] in omega arith
-length-weave x n more f (y ∷ ys) = go (noteBefore x y) refl (length-weave x n more f ys)
-  where
-    go : (b : Bool) → noteBefore x y ≡ b → length (weave x more ys) ≡ suc n + length ys → length (weave x more (y ∷ ys)) ≡ suc n + suc (length ys)
-    go true e ih = let g = f (y ∷ ys) in rw (e, weave) (omega arith)
-    go false e ih = rw (e, weave) (omega arith)
-
-length-merge : (xs ys : List Note) → length (merge xs ys) ≡ length xs + length ys
-unfolding merge
-length-merge [] ys = omega arith
-length-merge (x ∷ xs) ys = length-weave x (length xs) (λ zs. merge xs zs) (λ zs. length-merge xs zs) ys
 
 length-notes : (H : Header) (t : Take) → length (notesOf H t) ≡ length (t .inner) + length (lineNotes H (t .cells))
 unfolding notesOf

@@ -1,80 +1,32 @@
--- Split, join and history keep takes solid, so every shelf that a history of valid recordings gives is sound.
+-- Split, join and history keep takes solid.
 -- Assumes nothing.
-use mathlib.Core.Path.{_≡_, refl, sym, ap, ap₂, _∙_, subst}
-use mathlib.Core.Logic.{_≢_}
-use mathlib.Core.Bool.{Bool, true, false, cond, not, _&&_, _||_, true≢false}
-use mathlib.Core.List.{List, [], _∷_, _++_, map}
-use Prim.Native.Nat.{ℕ, zero, suc, _+_, _-_, _*_, _/_, _%_, _≤_, _<_}
-use native.Mathlib.Nat.{mul-le-mul-right, div-add-mod', mod-lt}
+use mathlib.Core.Bool.{Bool, true}
+use mathlib.Core.List.{List, [], _++_, _∷_, map}
+use mathlib.Core.Path.{_∙_, _≡_, ap, refl, subst, sym}
+use Prim.Native.Nat.{_%_, _*_, _+_, _-_, _/_, _<_, _≤_, suc, zero, ℕ}
 use native.Mathlib.Decide.{decLe, ℕ-discrete}
+use native.Mathlib.Nat.{div-add-mod', mul-le-mul-right}
 use native.Mathlib.Omega.{arith}
-use lib.Dec.{leb, ltb, eqb}
-use lib.ListN.{length, getD}
-use borrow.Author.Tests.{lt-ltb, le-ltb, le-leb, lt-leb, eq-eqb, ne-eqb, eqb-true, eqb-false, leb-true, leb-false, ltb-true, ltb-false}
-use Rattle.laws.specs.Heal.{Follow, above, later}
-use Rattle.laws.specs.History.{note-beat, join-takes}
-use Rattle.laws.specs.Inner.{All, all-append, all-consIf, all-keep, all-kept, all-gather, inside-to}
-use Rattle.laws.specs.Lay.{all-imp, Pairs, pairs-imp, pairs-keep, pairs-append, all-all, all-count, all-kept-imp, div-mono}
-use Rattle.laws.specs.Order.{Fair, Fine, Apart, lane-up, beat-up, side-up, Clear, Solid, inside-low, inside-high}
-use Rattle.laws.specs.Rules.{Pair, Pieced, stop, single, double}
-use Rattle.laws.specs.Shelf.{solid-sound}
-use Rattle.laws.specs.Solo.{pieced-append, pieced-keep, pieced-count, solid-recording}
-use Rattle.laws.specs.Chain.{chainShelf}
-use Rattle.model.specs.Binding.{opening, fills}
-use Rattle.model.specs.Histories.{Recording, placed, recordingTake, takeOf, historyTake}
-use Rattle.model.specs.Lists.{consIf, keep, gather, countFrom}
-use Rattle.model.specs.Pieces.{firstBeat, insideAt, inside}
+use lib.Dec.{eqb, leb, ltb}
+use lib.ListN.{getD, length}
+use borrow.Author.Tests.{eqb-true, leb-true, ltb-true}
+use Rattle.model.specs.Binding.{fills}
+use Rattle.model.specs.Histories.{Recording, historyTake, placed, takeOf}
+use Rattle.model.specs.Lists.{keep}
+use Rattle.model.specs.Pieces.{firstBeat, inside}
 use Rattle.model.specs.Questions.{fits}
-use Rattle.model.specs.Soundness.{notesOk, filled}
-use Rattle.model.specs.Takes.{Take, cellTo, noteTo, lanes, byLane, leftOf, rightOf, laterBy, splitLeft, splitRight, joinTakes, wordsOf}
+use Rattle.model.specs.Soundness.{filled, notesOk}
+use Rattle.model.specs.Takes.{Take, byLane, cellTo, joinTakes, laterBy, leftOf, noteTo, rightOf, splitLeft, splitRight}
 use Rattle.model.specs.declared.Cell.{Cell}
 use Rattle.model.specs.declared.Note.{Note}
-use Rattle.model.specs.declared.Header.{Header}
-
--- ---- lists
-
-module _ {A : Type 0} where
-  pub all-both : (P Q : A → Type 0) (xs : List A) → All P xs → All Q xs → All (λ x. P x × Q x) xs
-  all-both P Q [] a b = tt
-  all-both P Q (x ∷ xs) a b = ((a .0, b .0), all-both P Q xs (a .1) (b .1))
-
-  all-moved : {B : Type 0} (P : A → Type 0) (Q : B → Type 0) (f : A → B) (xs : List A) → ((x : A) → P x → Q (f x)) → All P xs → All Q (map f xs)
-  all-moved P Q f [] h a = tt
-  all-moved P Q f (x ∷ xs) h a = (h x (a .0), all-moved P Q f xs h (a .1))
-
-  pairs-moved : (P : A → Type 0) (R : A → A → Type 0) (f : A → A) (xs : List A) → ((x y : A) → P x → P y → R x y → R (f x) (f y)) → All P xs → Pairs R xs → Pairs R (map f xs)
-  pairs-moved P R f [] h a s = tt
-  pairs-moved P R f (x ∷ xs) h a s =
-      (all-moved (λ y. P y × R x y) (R (f x)) f xs (λ y k. h x y (a .0) (k .0) (k .1)) (all-both P (R x) xs (a .1) (s .0)), pairs-moved P R f xs h (a .1) (s .1))
-
-module _ {A : Type 0} (lane : A → ℕ) where
-  pub all-byLane : (P : A → Type 0) (xs : List A) → All P xs → All P (byLane lane xs)
-  unfolding byLane
-  all-byLane P xs a = all-gather P (λ l. keep (λ x. eqb (lane x) l) xs) lanes (λ l. all-keep P (λ x. eqb (lane x) l) xs a)
-
-  lane-all : (l : ℕ) (xs : List A) → All (λ x. lane x ≡ l) (keep (λ x. eqb (lane x) l) xs)
-  lane-all l xs = all-imp (λ x. eqb (lane x) l ≡ true) (λ x. lane x ≡ l) (keep (λ x. eqb (lane x) l) xs) (λ x. eqb-true (lane x) l) (all-kept (λ x. eqb (lane x) l) xs)
-
-  module _ (R : A → A → Type 0) (h : (x y : A) → lane x < lane y → R x y) (xs : List A) (s : Pairs (λ x y. lane x ≡ lane y → R x y) xs) where
-    one-lane : (l : ℕ) → Pairs R (keep (λ x. eqb (lane x) l) xs)
-    one-lane l = go (keep (λ x. eqb (lane x) l) xs) (lane-all l xs) (pairs-keep (λ x y. lane x ≡ lane y → R x y) (λ x. eqb (lane x) l) xs s)
-      where
-        go : (ys : List A) → All (λ x. lane x ≡ l) ys → Pairs (λ x y. lane x ≡ lane y → R x y) ys → Pairs R ys
-        go [] a p = tt
-        go (y ∷ ys) a p =
-            (all-imp (λ x. (lane x ≡ l) × (lane y ≡ lane x → R y x)) (R y) ys (λ x k. k .1 (a .0 ∙ sym (k .0))) (all-both (λ x. lane x ≡ l) (λ x. lane y ≡ lane x → R y x) ys (a .1) (p .0)), go ys (a .1) (p .1))
-
-    some-lanes : (n i : ℕ) → Pairs R (gather (λ l. keep (λ x. eqb (lane x) l) xs) (countFrom n i))
-    some-lanes zero i = tt
-    some-lanes (suc n) i =
-        let f : ℕ → List A = λ l. keep (λ x. eqb (lane x) l) xs in
-        pairs-append R (f i) (gather f (countFrom n (suc i))) (one-lane i) (some-lanes n (suc i))
-        (all-all (λ x. lane x ≡ i) (λ y. i < lane y) R (f i) (gather f (countFrom n (suc i))) (λ x y p q. h x y (omega arith)) (lane-all i xs)
-        (all-count (λ y. i < lane y) f n (suc i) (λ k a b. all-imp (λ x. lane x ≡ k) (λ y. i < lane y) (f k) (λ x e. omega arith) (lane-all k xs))))
-
-    pub pairs-byLane : Pairs R (byLane lane xs)
-    unfolding byLane
-    pairs-byLane = some-lanes 2048 0
+use Rattle.laws.specs.Beats.{div-mono, inside-high, inside-low, inside-to, note-beat}
+use Rattle.laws.specs.Histories.{join-takes}
+use Rattle.laws.specs.Lanes.{all-both, all-byLane, all-moved, pairs-byLane, pairs-moved}
+use Rattle.laws.specs.Notes.{Fair, Follow, above, later}
+use Rattle.laws.specs.OneNote.{pieced-append, pieced-count, pieced-keep, solid-recording}
+use Rattle.laws.specs.Relations.{All, all-all, all-append, all-imp, all-keep, all-kept, all-kept-imp, pairs-append, pairs-imp, pairs-keep}
+use Rattle.laws.specs.Rules.{Pieced, double, single, stop}
+use Rattle.laws.specs.Solid.{Apart, Clear, Fine, Solid, beat-up, lane-up, side-up}
 
 pub pieced-byLane : (δ : ℕ) {xs : List Cell} → Pieced δ xs → Pieced δ (byLane (λ c. c .lane) xs)
 unfolding byLane

@@ -1,23 +1,21 @@
 -- What the code of lay, split and join follows on solid takes: the notes by one walk, a join by one merge over lanes.
 -- Assumes nothing.
-use mathlib.Core.Path.{_≡_, refl, sym, ap}
-use mathlib.Core.Option.{Option, none}
-use mathlib.Core.List.{List, [], _∷_, _++_, map}
-use Prim.Native.Nat.{ℕ, _+_, _-_, _*_, _/_, _%_, _≤_, _<_}
+use mathlib.Core.List.{List, [], _∷_, map}
+use mathlib.Core.Option.{none}
+use mathlib.Core.Path.{_≡_, ap, refl, sym}
+use Prim.Native.Nat.{_%_, _*_, _+_, _-_, _/_, _<_, _≤_, ℕ}
 use native.Mathlib.Nat.{add-mul, div-add-mod'}
 use native.Mathlib.Omega.{arith}
-use Rattle.laws.specs.Heal.{Follow, above, later, note-same}
-use Rattle.laws.specs.Inner.{All}
-use Rattle.laws.specs.Lay.{all-imp, Pairs, pairs-imp}
-use Rattle.laws.specs.Order.{Fair, Fine, Apart, lane-up, beat-up, side-up, Solid}
-use Rattle.laws.specs.Rules.{walkFrom, line-from}
-use Rattle.laws.specs.Walk.{mergeLane, merge-lane}
-use Rattle.model.specs.Binding.{lineNotes}
 use Rattle.model.specs.Pieces.{firstBeat}
-use Rattle.model.specs.Takes.{Take, cellTo, noteTo, laterBy, merge, notesOf, joinTakes}
+use Rattle.model.specs.Takes.{Take, cellTo, joinTakes, laterBy, merge, noteTo, notesOf}
 use Rattle.model.specs.declared.Cell.{Cell}
-use Rattle.model.specs.declared.Note.{Note}
 use Rattle.model.specs.declared.Header.{Header}
+use Rattle.model.specs.declared.Note.{Note}
+use Rattle.laws.specs.Lanes.{merge-lane, mergeLane}
+use Rattle.laws.specs.Notes.{Fair, Follow, above, later, note-same}
+use Rattle.laws.specs.Relations.{All, Pairs, all-imp, pairs-imp}
+use Rattle.laws.specs.Solid.{Apart, Fine, Solid, beat-up, lane-up, side-up}
+use Rattle.laws.specs.Walk.{line-from, walkFrom}
 
 -- a solid take's notes: the inner ones, and those of one walk over the cells
 pub solid-from : (H : Header) → (H .epsilon) ≤ (H .delta) → (t : Take) → Solid (H .delta) t → notesOf H t ≡ merge (t .inner) (walkFrom H none (t .cells))

@@ -1,32 +1,30 @@
--- Reversibility for every sound shelf: a split's halves joined give the shelf again, and a join split at its seam gives both shelves again.
+-- Reversibility for every sound shelf: a split's halves joined give the shelf again, and a join split gives both shelves again.
 -- Assumes nothing.
-use mathlib.Core.Path.{_≡_, refl, sym, ap, ap₂, _∙_, subst}
-use mathlib.Core.Bool.{Bool, true, false, cond, _&&_}
-use mathlib.Core.List.{List, [], _∷_, _++_, map, append-nil}
-use Prim.Native.Nat.{ℕ, zero, suc, _+_, _-_, _*_, _/_, _%_, _≤_, _<_}
-use native.Mathlib.Nat.{div-add-mod'}
+use mathlib.Core.Bool.{false, true}
+use mathlib.Core.List.{List, [], _++_, _∷_, append-nil, map}
+use mathlib.Core.Path.{_∙_, _≡_, ap, ap₂, refl, sym}
+use Prim.Native.Nat.{_+_, _-_, _<_, _≤_, suc, ℕ}
 use native.Mathlib.Decide.{decLe}
 use native.Mathlib.Omega.{arith}
-use lib.Dec.{leb, ltb, eqb}
+use lib.Dec.{eqb, leb, ltb}
 use lib.ListN.{length}
-use borrow.Author.Tests.{lt-ltb, le-ltb, le-leb, lt-leb, eqb-true, leb-true}
-use Rattle.laws.specs.Back.{sound-solid, words-again}
-use Rattle.laws.specs.Heal.{Follow, above, later, note-same}
-use Rattle.laws.specs.History.{take-same, note-beat, note-to, keep-byLane, map-byLane}
-use Rattle.laws.specs.Inner.{All, all-append, all-keep, all-kept, keep-yes, keep-no}
-use Rattle.laws.specs.Lay.{all-imp, Pairs, pairs-imp, buckets, lane-pairs, Ordered, Ranged, div-mono}
-use Rattle.laws.specs.Lists.{keep-append, keep-swap, gather-same}
-use Rattle.laws.specs.Reading.{words-take}
-use Rattle.laws.specs.Order.{Fair, Fine, Apart, lane-up, beat-up, side-up, Solid}
-use Rattle.laws.specs.Reach.{all-both, inner-beat, solid-left, solid-right, solid-join}
-use Rattle.laws.specs.Shelf.{solid-inner}
-use Rattle.laws.specs.Chain.{chainShelf}
-use Rattle.model.specs.Lists.{consIf, keep, gather, countFrom}
-use Rattle.model.specs.Pieces.{firstBeat, inside}
-use Rattle.model.specs.Takes.{Take, cellTo, noteTo, lanes, byLane, leftOf, rightOf, laterBy, splitLeft, splitRight, joinTakes, wordsOf, word, takeIn}
-use Rattle.model.specs.declared.Cell.{Cell}
-use Rattle.model.specs.declared.Note.{Note}
+use borrow.Author.Tests.{le-leb, le-ltb, leb-true, lt-leb, lt-ltb}
+use Rattle.model.specs.Lists.{keep}
+use Rattle.model.specs.Pieces.{firstBeat}
+use Rattle.model.specs.Takes.{Take, byLane, cellTo, joinTakes, lanes, laterBy, leftOf, noteTo, rightOf, splitLeft, splitRight, takeIn, word, wordsOf}
 use Rattle.model.specs.declared.Header.{Header}
+use Rattle.laws.specs.Beats.{note-beat, note-to}
+use Rattle.laws.specs.Chain.{chainShelf}
+use Rattle.laws.specs.ChainSolid.{sound-solid, words-again}
+use Rattle.laws.specs.Histories.{take-same}
+use Rattle.laws.specs.Lanes.{all-both, keep-byLane, map-byLane}
+use Rattle.laws.specs.Lines.{solid-inner}
+use Rattle.laws.specs.Lists.{gather-same, keep-append, keep-swap}
+use Rattle.laws.specs.Moving.{solid-join, solid-left, solid-right}
+use Rattle.laws.specs.Reading.{words-take}
+use Rattle.laws.specs.Relations.{All, Pairs, all-imp, all-keep, all-kept, keep-no, keep-yes}
+use Rattle.laws.specs.Solid.{Solid}
+use Rattle.laws.specs.Tidy.{Ranged, Tidy, cells-tidy, lane-pairs, notes-tidy, tidy-byLane, tidy-lanes}
 
 -- ---- lists of anything with a lane and a beat
 
@@ -34,18 +32,6 @@ module _ {A : Type 0} (lane beat : A → ℕ) (to : ℕ → A → A)
     (beat-to : (i : ℕ) (x : A) → beat (to i x) ≡ i)
     (to-to : (i j : ℕ) (x : A) → to i (to j x) ≡ to i x)
     (lane-to : (i : ℕ) (x : A) → lane (to i x) ≡ lane x) where
-  -- in order, in range
-  abbrev Tidy : ℕ → List A → Type 0
-  Tidy n xs = Pairs (Ordered lane beat to) xs × All (Ranged lane beat to n) xs
-
-  tidy-lanes : (n : ℕ) (xs : List A) → Tidy n xs → gather (λ l. keep (λ x. eqb (lane x) l) xs) lanes ≡ xs
-  tidy-lanes n xs t =
-      buckets lane xs 2048 (pairs-imp (Ordered lane beat to) (λ x y. lane x ≤ lane y) xs (λ x y o. o .0) (t .0)) (all-imp (Ranged lane beat to n) (λ x. lane x < 2048) xs (λ x r. r .0) (t .1))
-
-  tidy-byLane : (n : ℕ) (xs : List A) → Tidy n xs → byLane lane xs ≡ xs
-  unfolding byLane
-  tidy-byLane n xs t = tidy-lanes n xs t
-
   -- in the order of beats: the part before k and the rest
   cut : (k : ℕ) (xs : List A) → Pairs (λ x y. beat x ≤ beat y) xs → keep (λ x. ltb (beat x) k) xs ++ keep (λ x. leb k (beat x)) xs ≡ xs
   cut k [] s = refl
@@ -73,11 +59,11 @@ module _ {A : Type 0} (lane beat : A → ℕ) (to : ℕ → A → A)
       let e : k + beat y - k ≡ beat y = omega arith in
       ap₂ _∷_ (to-to (beat (to (k + beat y) y) - k) (k + beat y) y ∙ ap (λ (i : ℕ). to (i - k) y) (beat-to (k + beat y) y) ∙ ap (λ (i : ℕ). to i y) e ∙ a .0 .2) (back-there n k ys (a .1))
 
-  two-parts : (n k : ℕ) (xs : List A) → Tidy n xs → byLane lane (keep (λ x. ltb (beat x) k) xs ++ keep (λ x. leb k (beat x)) xs) ≡ xs
+  two-parts : (n k : ℕ) (xs : List A) → Tidy lane beat to n xs → byLane lane (keep (λ x. ltb (beat x) k) xs ++ keep (λ x. leb k (beat x)) xs) ≡ xs
   unfolding byLane
   two-parts n k xs t =
       gather-same (λ l. keep (λ x. eqb (lane x) l) (keep (λ x. ltb (beat x) k) xs ++ keep (λ x. leb k (beat x)) xs)) (λ l. keep (λ x. eqb (lane x) l) xs) lanes one
-      ∙ tidy-lanes n xs t
+      ∙ tidy-lanes lane beat to n xs t
     where
       one : (l : ℕ) → keep (λ x. eqb (lane x) l) (keep (λ x. ltb (beat x) k) xs ++ keep (λ x. leb k (beat x)) xs) ≡ keep (λ x. eqb (lane x) l) xs
       one l =
@@ -86,7 +72,7 @@ module _ {A : Type 0} (lane beat : A → ℕ) (to : ℕ → A → A)
           ∙ cut k (keep (λ x. eqb (lane x) l) xs) (lane-pairs lane beat to l xs (t .0))
 
   -- the halves joined
-  join-split : (n k : ℕ) (xs : List A) → Tidy n xs → byLane lane (leftOf beat k xs ++ laterBy beat to k (rightOf beat to k xs)) ≡ xs
+  join-split : (n k : ℕ) (xs : List A) → Tidy lane beat to n xs → byLane lane (leftOf beat k xs ++ laterBy beat to k (rightOf beat to k xs)) ≡ xs
   unfolding leftOf laterBy rightOf
   join-split n k xs t =
       let ys = keep (λ x. leb k (beat x)) xs in
@@ -100,7 +86,7 @@ module _ {A : Type 0} (lane beat : A → ℕ) (to : ℕ → A → A)
   late k [] = tt
   late k (y ∷ ys) = (rw (beat-to (k + beat y) y) (omega arith), late k ys)
 
-  left-join : (n : ℕ) (xs ys : List A) → Tidy n xs → leftOf beat n (byLane lane (xs ++ laterBy beat to n ys)) ≡ xs
+  left-join : (n : ℕ) (xs ys : List A) → Tidy lane beat to n xs → leftOf beat n (byLane lane (xs ++ laterBy beat to n ys)) ≡ xs
   unfolding leftOf laterBy
   left-join n xs ys t =
       let zs = map (λ x. to (n + beat x) x) ys in
@@ -109,9 +95,9 @@ module _ {A : Type 0} (lane beat : A → ℕ) (to : ℕ → A → A)
       ∙ ap₂ _++_ (keep-yes (λ x. ltb (beat x) n) xs (all-imp (Ranged lane beat to n) (λ x. ltb (beat x) n ≡ true) xs (λ x r. lt-ltb (beat x) n (r .1)) (t .1)))
       (keep-no (λ x. ltb (beat x) n) zs (all-imp (λ x. n ≤ beat x) (λ x. ltb (beat x) n ≡ false) zs (λ x h. le-ltb (beat x) n h) (late n ys)))
       ∙ append-nil xs)
-      ∙ tidy-byLane n xs t
+      ∙ tidy-byLane lane beat to n xs t
 
-  right-join : (n m : ℕ) (xs ys : List A) → Tidy n xs → Tidy m ys → rightOf beat to n (byLane lane (xs ++ laterBy beat to n ys)) ≡ ys
+  right-join : (n m : ℕ) (xs ys : List A) → Tidy lane beat to n xs → Tidy lane beat to m ys → rightOf beat to n (byLane lane (xs ++ laterBy beat to n ys)) ≡ ys
   unfolding rightOf laterBy
   right-join n m xs ys t u =
       let zs = map (λ x. to (n + beat x) x) ys in
@@ -122,77 +108,40 @@ module _ {A : Type 0} (lane beat : A → ℕ) (to : ℕ → A → A)
       (keep-yes (λ x. leb n (beat x)) zs (all-imp (λ x. n ≤ beat x) (λ x. leb n (beat x) ≡ true) zs (λ x h. le-leb n (beat x) h) (late n ys)))))
       ∙ map-byLane lane f zs (λ x. lane-to (beat x - n) x)
       ∙ ap (byLane lane) (back-there m n ys (u .1))
-      ∙ tidy-byLane m ys u
+      ∙ tidy-byLane lane beat to m ys u
 
 -- ---- takes
 
 module _ (δ : ℕ) (z : 0 < δ) where
-  abbrev CellsTidy : ℕ → List Cell → Type 0
-  CellsTidy = Tidy (λ (c : Cell). c .lane) (λ (c : Cell). c .beat) cellTo (λ i c. refl) (λ i j c. refl) (λ i c. refl)
-
-  abbrev NotesTidy : ℕ → List Note → Type 0
-  NotesTidy = Tidy (λ (n : Note). n .lane) (firstBeat δ) (noteTo δ) (note-beat δ z) (note-to δ) (λ i n. refl)
-
-  apart-ordered : (c d : Cell) → Apart δ c d → Ordered (λ (c : Cell). c .lane) (λ (c : Cell). c .beat) cellTo c d
-  apart-ordered c d (lane-up a) = (omega arith, λ e. absurd (omega arith))
-  apart-ordered c d (beat-up a b) = (omega arith, λ e. omega arith)
-  apart-ordered c d (side-up a b o p i) = (omega arith, λ e. omega arith)
-
-  cells-tidy : (t : Take) → Solid δ t → CellsTidy (t .beats) (t .cells)
-  cells-tidy t s = (
-    pairs-imp (Apart δ) (Ordered (λ (c : Cell). c .lane) (λ (c : Cell). c .beat) cellTo) (t .cells) apart-ordered (s .cells-apart),
-    all-imp (Fine δ (t .beats)) (Ranged (λ (c : Cell). c .lane) (λ (c : Cell). c .beat) cellTo (t .beats)) (t .cells) (λ c f. (f .lane-below, f .beat-below, refl)) (s .cells-fine),
-  )
-
-  follow-ordered : (n m : Note) → n .start < n .end → Follow n m → Ordered (λ (n : Note). n .lane) (firstBeat δ) (noteTo δ) n m
-  follow-ordered n m v (above a) = (omega arith, λ e. absurd (omega arith))
-  follow-ordered n m v (later a b) = (omega arith, λ e. div-mono δ z (n .start) (m .start) (omega arith))
-
-  own-beat : (n : Note) → n .start ≤ n .end → noteTo δ (firstBeat δ n) n ≡ n
-  own-beat n v = let d : n .start / δ * δ + n .start % δ ≡ n .start = div-add-mod' (n .start) δ in note-same refl (omega arith) (omega arith) refl
-
-  notes-order : (beats : ℕ) (ns : List Note) → All (Fair δ beats) ns → Pairs Follow ns → Pairs (Ordered (λ (n : Note). n .lane) (firstBeat δ) (noteTo δ)) ns
-  notes-order beats [] f s = tt
-  notes-order beats (n ∷ ns) f s =
-      (all-imp (Follow n) (Ordered (λ (n : Note). n .lane) (firstBeat δ) (noteTo δ) n) ns (λ m. follow-ordered n m (f .0 .order)) (s .0), notes-order beats ns (f .1) (s .1))
-
-  notes-tidy : (t : Take) → Solid δ t → NotesTidy (t .beats) (t .inner)
-  notes-tidy t s = (
-    notes-order (t .beats) (t .inner) (s .notes-fair) (s .notes-apart),
-    all-imp (λ n. Fair δ (t .beats) n × (inside δ n ≡ true)) (Ranged (λ (n : Note). n .lane) (firstBeat δ) (noteTo δ) (t .beats)) (t .inner)
-        (λ n p. (p .0 .lane-below, inner-beat δ z (t .beats) n (p .0) (p .1), own-beat n (let v : n .start < n .end = p .0 .order in omega arith)))
-        (all-both (Fair δ (t .beats)) (λ n. inside δ n ≡ true) (t .inner) (s .notes-fair) (s .notes-inside)),
-  )
-
   -- a take's halves joined are the take
   pub join-again : (t : Take) → Solid δ t → (k : ℕ) → k ≤ t .beats → joinTakes δ (splitLeft δ k t) (splitRight δ k t) ≡ t
   unfolding joinTakes splitLeft splitRight
   join-again t s k h =
       take-same (omega arith)
-      (join-split (λ n. n .lane) (firstBeat δ) (noteTo δ) (note-beat δ z) (note-to δ) (λ i n. refl) (t .beats) k (t .inner) (notes-tidy t s))
-      (join-split (λ c. c .lane) (λ c. c .beat) cellTo (λ i c. refl) (λ i j c. refl) (λ i c. refl) (t .beats) k (t .cells) (cells-tidy t s))
+      (join-split (λ n. n .lane) (firstBeat δ) (noteTo δ) (note-beat δ z) (note-to δ) (λ i n. refl) (t .beats) k (t .inner) (notes-tidy δ z t s))
+      (join-split (λ c. c .lane) (λ c. c .beat) cellTo (λ i c. refl) (λ i j c. refl) (λ i c. refl) (t .beats) k (t .cells) (cells-tidy δ z t s))
 
   -- a join split at its seam is the two takes
   pub split-again-left : (t u : Take) → Solid δ t → splitLeft δ (t .beats) (joinTakes δ t u) ≡ t
   unfolding joinTakes splitLeft
   split-again-left t u s =
       take-same refl
-      (left-join (λ n. n .lane) (firstBeat δ) (noteTo δ) (note-beat δ z) (note-to δ) (λ i n. refl) (t .beats) (t .inner) (u .inner) (notes-tidy t s))
-      (left-join (λ c. c .lane) (λ c. c .beat) cellTo (λ i c. refl) (λ i j c. refl) (λ i c. refl) (t .beats) (t .cells) (u .cells) (cells-tidy t s))
+      (left-join (λ n. n .lane) (firstBeat δ) (noteTo δ) (note-beat δ z) (note-to δ) (λ i n. refl) (t .beats) (t .inner) (u .inner) (notes-tidy δ z t s))
+      (left-join (λ c. c .lane) (λ c. c .beat) cellTo (λ i c. refl) (λ i j c. refl) (λ i c. refl) (t .beats) (t .cells) (u .cells) (cells-tidy δ z t s))
 
   pub split-again-right : (t u : Take) → Solid δ t → Solid δ u → splitRight δ (t .beats) (joinTakes δ t u) ≡ u
   unfolding joinTakes splitRight
   split-again-right t u s r =
       take-same (omega arith)
-      (right-join (λ n. n .lane) (firstBeat δ) (noteTo δ) (note-beat δ z) (note-to δ) (λ i n. refl) (t .beats) (u .beats) (t .inner) (u .inner) (notes-tidy t s) (notes-tidy u r))
-      (right-join (λ c. c .lane) (λ c. c .beat) cellTo (λ i c. refl) (λ i j c. refl) (λ i c. refl) (t .beats) (u .beats) (t .cells) (u .cells) (cells-tidy t s) (cells-tidy u r))
+      (right-join (λ n. n .lane) (firstBeat δ) (noteTo δ) (note-beat δ z) (note-to δ) (λ i n. refl) (t .beats) (u .beats) (t .inner) (u .inner) (notes-tidy δ z t s) (notes-tidy δ z u r))
+      (right-join (λ c. c .lane) (λ c. c .beat) cellTo (λ i c. refl) (λ i j c. refl) (λ i c. refl) (t .beats) (u .beats) (t .cells) (u .cells) (cells-tidy δ z t s) (cells-tidy δ z u r))
 
 -- ---- words
 
 module _ (H : Header) (z : 0 < (H .delta)) (le : (H .epsilon) ≤ (H .delta)) where
   -- a solid take is in its words
   pub solid-in : (t : Take) → Solid (H .delta) t → takeIn (H .delta) (wordsOf H t) ≡ t
-  solid-in t s = words-take H t (solid-inner H z le t s)
+  solid-in t s = words-take H t (solid-inner H z t s)
 
   -- the words that a split and a join leave
   abbrev pub leftWords : ℕ → List ℕ → List ℕ

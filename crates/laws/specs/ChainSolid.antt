@@ -1,32 +1,133 @@
--- A sound shelf's take is solid, and its words are those of that take.
+-- The test by neighbours and solid takes: each gives the other.
 -- Assumes nothing.
-use mathlib.Core.Path.{_≡_, refl, sym, ap, ap₂, _∙_, subst}
+use mathlib.Core.Bool.{Bool, _&&_, _||_, cond, false, not, true, true≢false}
+use mathlib.Core.List.{List, [], _++_, _∷_}
 use mathlib.Core.Logic.{_≢_}
-use mathlib.Core.Bool.{Bool, true, false, cond, not, _&&_, _||_, true≢false}
-use mathlib.Core.List.{List, [], _∷_, _++_, map, append-assoc}
-use mathlib.Core.Option.{Option, none, some}
-use Prim.Native.Nat.{ℕ, zero, suc, _+_, _-_, _*_, _/_, _%_, _≤_, _<_}
+use mathlib.Core.Option.{none}
+use mathlib.Core.Path.{_∙_, _≡_, ap, refl, sym}
+use Prim.Native.Nat.{_*_, _+_, _-_, _<_, _≤_, suc, ℕ}
 use native.Mathlib.Omega.{arith}
-use lib.Dec.{leb, ltb, eqb}
-use lib.ListN.{length, drop, replicate, getD, length-drop}
-use lib.Seq.{drop-drop}
-use borrow.Author.Tests.{lt-ltb, le-ltb, le-leb, lt-leb, eq-eqb, ne-eqb, eqb-true, eqb-false, leb-true, leb-false, ltb-true, ltb-false, not-true}
-use Rattle.laws.specs.Heal.{Follow, not-open, ok-sorted, merge-parts, note-same}
-use Rattle.laws.specs.Inner.{All, all-keep, all-kept, and-left, and-right, and-yes}
-use Rattle.laws.specs.Lay.{all-imp, Pairs, pairs-keep, ok-pairs}
-use Rattle.laws.specs.Order.{Fair, Fine, fine, Apart, lane-up, beat-up, side-up, Clear, Solid}
-use Rattle.laws.specs.Rules.{Pair, Pieced, stop, single, double, walkFrom, line-from}
-use Rattle.laws.specs.Shelf.{every-all}
-use Rattle.laws.specs.Solo.{fair-notes}
-use Rattle.laws.specs.Chain.{cellOk, sameBeat, neighbours, cellsChain, cellsSound, clear, chainTake, chainShelf}
-use Rattle.model.specs.Binding.{opening, fills, lineNotes}
-use Rattle.model.specs.Lists.{consIf, keep, gather, every}
-use Rattle.model.specs.Pieces.{firstBeat, insideAt, inside}
-use Rattle.model.specs.Soundness.{notesOk, sameWords, cellBefore, filled, partners, layoutOk, notesGiven, cellInRange, memoryWithin, hasTicks}
-use Rattle.model.specs.Takes.{Take, merge, notesOf, noteWords, cellWords, shelfWords, wordsOf, word, readNotes, readCells, takeIn}
+use lib.Dec.{eqb, leb, ltb}
+use lib.ListN.{drop, length, replicate}
+use borrow.Author.Tests.{eq-eqb, eqb-false, eqb-true, le-leb, leb-true, lt-ltb, ltb-true, ne-eqb, not-true}
+use Rattle.model.specs.Binding.{fills, lineNotes, opening}
+use Rattle.model.specs.Lists.{every, gather, keep}
+use Rattle.model.specs.Pieces.{firstBeat, inside}
+use Rattle.model.specs.Questions.{fits}
+use Rattle.model.specs.Soundness.{cellBefore, cellInRange, filled, hasTicks, layoutOk, memoryWithin, notesGiven, notesOk, partners, sameWords}
+use Rattle.model.specs.Takes.{Take, cellWords, merge, noteWords, notesOf, readCells, readNotes, shelfWords, takeIn, word, wordsOf}
 use Rattle.model.specs.declared.Cell.{Cell}
-use Rattle.model.specs.declared.Note.{Note}
 use Rattle.model.specs.declared.Header.{Header}
+use Rattle.model.specs.declared.Note.{Note}
+use Rattle.laws.specs.Booleans.{and-left, and-right, and-yes, or-left, or-right}
+use Rattle.laws.specs.Chain.{cellOk, cellsChain, cellsSound, chainShelf, chainTake, clear, neighbours, sameBeat}
+use Rattle.laws.specs.Lines.{solid-inner, solid-line}
+use Rattle.laws.specs.Merging.{merge-parts}
+use Rattle.laws.specs.Notes.{Fair, Follow, fair-notes, ok-pairs, ok-sorted}
+use Rattle.laws.specs.Order.{solid-notes}
+use Rattle.laws.specs.Reading.{notes-same, past-all, past-head, read-cells, read-notes, same-words, shelf-back, zeros}
+use Rattle.laws.specs.Relations.{All, Pairs, all-imp, all-keep, all-kept, every-all, every-yes, pairs-keep}
+use Rattle.laws.specs.Rules.{Pair, Pieced, double, not-open, pair-close, pair-fills, pair-open, single, stop}
+use Rattle.laws.specs.Solid.{Apart, Clear, Fine, Solid, beat-up, fine, fine-memory, fine-range, fine-ticks, lane-up, side-up}
+use Rattle.laws.specs.Walk.{line-from, walkFrom}
+
+-- ---- cells
+
+apart-before : (δ : ℕ) (c d : Cell) → Apart δ c d → cellBefore c d ≡ true
+unfolding cellBefore
+apart-before δ c d (lane-up a) = or-left (eqb (c .lane) (d .lane) && (ltb (c .beat) (d .beat) || eqb (c .beat) (d .beat) && ltb (c .side) (d .side))) (lt-ltb (c .lane) (d .lane) a)
+apart-before δ c d (beat-up a b) = or-right (ltb (c .lane) (d .lane)) (and-yes (eq-eqb (c .lane) (d .lane) a) (or-left (eqb (c .beat) (d .beat) && ltb (c .side) (d .side)) (lt-ltb (c .beat) (d .beat) b)))
+apart-before δ c d (side-up a b o p i) =
+    or-right (ltb (c .lane) (d .lane)) (and-yes (eq-eqb (c .lane) (d .lane) a) (or-right (ltb (c .beat) (d .beat)) (and-yes (eq-eqb (c .beat) (d .beat) b) (lt-ltb (c .side) (d .side) (omega arith)))))
+
+apart-gap : (δ : ℕ) (c d : Cell) → fills δ c ≡ false → Apart δ c d → not (sameBeat c d) || leb (c .after + d .before) δ ≡ true
+unfolding sameBeat
+apart-gap δ c d f (lane-up a) = rw (ne-eqb (c .lane) (d .lane) (omega arith))
+apart-gap δ c d f (beat-up a b) = rw (eq-eqb (c .lane) (d .lane) a, ne-eqb (c .beat) (d .beat) (omega arith))
+apart-gap δ c d f (side-up a b o p i) = or-right (not (eqb (c .lane) (d .lane) && eqb (c .beat) (d .beat))) (le-leb (c .after + d .before) δ (i f))
+
+pub open-filled : (δ : ℕ) (c : Cell) → opening c ≡ true → filled δ c ≡ false
+unfolding filled
+open-filled δ c e = rw e
+
+pair-partners : (δ : ℕ) (c d : Cell) → Pair δ c d → partners δ c d ≡ true
+unfolding partners
+pair-partners δ c d q =
+    let b : d .before ≡ c .before + δ = q .before-is in
+    let a : d .after + δ ≡ c .after = q .after-is in
+    and-yes (and-yes (and-yes (and-yes (and-yes (and-yes (eq-eqb (c .lane) (d .lane) (sym (q .lane-same))) (eq-eqb (c .beat) (d .beat) (sym (q .beat-same)))) (pair-open δ c d q)) (rw (pair-close δ c d q)))
+    (eq-eqb (d .before) (c .before + δ) b)) (eq-eqb (d .after + δ) (c .after) a)) (eq-eqb (c .velocity) (d .velocity) (sym (q .velocity-same)))
+
+module _ (δ : ℕ) where
+  near-single : (c e : Cell) → fills δ c ≡ false → filled δ e ≡ false → Apart δ c e → neighbours δ c e ≡ true
+  unfolding neighbours
+  near-single c e f g a = and-yes (apart-before δ c e a) (rw (f, g) (apart-gap δ c e f a))
+
+  pick : (a b x y : Bool) → a ≡ true → x ≡ true → cond (a || b) x y ≡ true
+  pick true b x y p q = q
+  pick false b x y p q = absurd (true≢false (sym p))
+
+  near-double : (c d : Cell) → Pair δ c d → Apart δ c d → neighbours δ c d ≡ true
+  unfolding neighbours
+  near-double c d q a = and-yes (apart-before δ c d a) (pick (fills δ c) (filled δ d) (partners δ c d) _ (pair-fills δ c d q) (pair-partners δ c d q))
+
+  chain : {cs : List Cell} → Pieced δ cs → (c : Cell) → fills δ c ≡ false → All (Apart δ c) cs → Pairs (Apart δ) cs → cellsChain δ c cs ≡ true
+  unfolding cellsChain
+  chain stop c f a b = rw f
+  chain (single {c = e} f g p) c h a b = and-yes (near-single c e h g (a .0)) (chain p e f (b .0) (b .1))
+  chain (double {c = e} {d = d} q p) c h a b =
+      and-yes (near-single c e h (open-filled δ e (pair-open δ e d q)) (a .0))
+      (and-yes (near-double e d q (b .0 .0)) (chain p d (not-open δ d (pair-close δ e d q)) (b .1 .0) (b .1 .1)))
+
+  pub cells-sound : {cs : List Cell} → Pieced δ cs → Pairs (Apart δ) cs → cellsSound δ cs ≡ true
+  unfolding cellsSound
+  cells-sound stop b = refl
+  cells-sound (single {c = e} f g p) b = rw g (chain p e f (b .0) (b .1))
+  cells-sound (double {c = e} {d = d} q p) b =
+      rw (open-filled δ e (pair-open δ e d q)) (and-yes (near-double e d q (b .0 .0)) (chain p d (not-open δ d (pair-close δ e d q)) (b .1 .0) (b .1 .1)))
+
+  pub clear-is : (n : Note) (c : Cell) → Clear δ n c → clear δ n c ≡ true
+  unfolding clear
+  clear-is n c w = go (eqb (n .lane) (c .lane)) (eqb (firstBeat δ n) (c .beat)) (opening c) refl refl refl
+    where
+      go : (s t o : Bool) → eqb (n .lane) (c .lane) ≡ s → eqb (firstBeat δ n) (c .beat) ≡ t → opening c ≡ o
+          → not (s && t) || cond o (leb (c .beat * δ + c .after) (n .start)) (leb (n .end + c .before) (suc (c .beat) * δ)) ≡ true
+      go false t o a b e = refl
+      go true false o a b e = refl
+      go true true true a b e = le-leb (c .beat * δ + c .after) (n .start) (w .behind (eqb-true (n .lane) (c .lane) a) (eqb-true (firstBeat δ n) (c .beat) b) e)
+      go true true false a b e = le-leb (n .end + c .before) (suc (c .beat) * δ) (w .before (eqb-true (n .lane) (c .lane) a) (eqb-true (firstBeat δ n) (c .beat) b) e)
+
+pub parts-shelf : (H : Header) (beats : ℕ) (ns : List Note) (cs : List Cell) → beats ≤ 4096 → 3 + 4 * length ns + 6 * length cs ≤ (H .words) → chainTake H beats ns cs ≡ true
+    → chainShelf H (shelfWords (H .words) beats ns cs) ≡ true
+unfolding chainShelf layoutOk shelfWords
+parts-shelf H beats ns cs b f e =
+    let k = (H .words) - (3 + 4 * length ns + 6 * length cs) in
+    rw (
+      past-all beats (length ns) (length cs) ns cs (replicate k 0),
+      past-head beats (length ns) (length cs) ns (gather cellWords cs ++ replicate k 0),
+      read-cells cs (replicate k 0),
+      read-notes ns (gather cellWords cs ++ replicate k 0),
+      le-leb beats 4096 b,
+      le-leb (3 + 4 * length ns + 6 * length cs) (H .words) f,
+      zeros k,
+    ) e
+
+module _ (H : Header) (z : 0 < (H .delta)) (le : (H .epsilon) ≤ (H .delta)) (t : Take) (s : Solid (H .delta) t) where
+  pub solid-parts : chainTake H (t .beats) (notesOf H t) (t .cells) ≡ true
+  unfolding chainTake cellOk notesGiven
+  solid-parts =
+      and-yes (and-yes (and-yes (and-yes (solid-notes H z le t s)
+      (every-yes (cellOk (H .delta) (t .beats)) (t .cells) (all-imp (Fine (H .delta) (t .beats)) (λ c. cellOk (H .delta) (t .beats) c ≡ true) (t .cells) (λ c f. and-yes (and-yes (fine-range (H .delta) (t .beats) c f) (fine-memory (H .delta) (t .beats) c f)) (fine-ticks (H .delta) (t .beats) c f)) (s .cells-fine))))
+      (cells-sound (H .delta) (s .cells-pieced) (s .cells-apart)))
+      (rw (solid-inner H z t s) (every-yes (λ n. every (clear (H .delta) n) (t .cells)) (t .inner)
+      (all-imp (λ n. All (Clear (H .delta) n) (t .cells)) (λ n. every (clear (H .delta) n) (t .cells) ≡ true) (t .inner)
+      (λ n a. every-yes (clear (H .delta) n) (t .cells) (all-imp (Clear (H .delta) n) (λ c. clear (H .delta) n c ≡ true) (t .cells) (λ c. clear-is (H .delta) n c) a)) (s .all-clear)))))
+      (rw (solid-line H z t s) (same-words (gather noteWords (lineNotes H (t .cells)))))
+
+  -- the words of a solid take that fits are a sound shelf
+  pub solid-sound : t .beats ≤ 4096 → fits H t ≡ true → chainShelf H (wordsOf H t) ≡ true
+  unfolding wordsOf fits
+  solid-sound b f = parts-shelf H (t .beats) (notesOf H t) (t .cells) b (leb-true (3 + 4 * length (notesOf H t) + 6 * length (t .cells)) (H .words) f) solid-parts
 
 -- ---- the parts of the test
 
@@ -249,33 +350,15 @@ sound-solid H z ws e =
     let cells = readCells (word ws 2) (drop (3 + 4 * word ws 1) ws) in
     let k : All (Fine (H .delta) (word ws 0)) cells = all-imp (λ c. cellOk (H .delta) (word ws 0) c ≡ true) (Fine (H .delta) (word ws 0)) cells (λ c. fine-of (H .delta) (word ws 0) c) (every-all (cellOk (H .delta) (word ws 0)) cells (p .cells-ok)) in
     record {
-      notes-fair = all-keep (Fair (H .delta) (word ws 0)) (inside (H .delta)) notes (fair-notes (H .delta) z (word ws 0) notes (p .notes-ok));
+      notes-fair = all-keep (Fair (H .delta) (word ws 0)) (inside (H .delta)) notes (fair-notes (H .delta) (word ws 0) notes (p .notes-ok));
       notes-inside = all-kept (inside (H .delta)) notes;
-      notes-apart = pairs-keep Follow (inside (H .delta)) notes (ok-pairs (H .delta) z (word ws 0) notes (p .notes-ok));
+      notes-apart = pairs-keep Follow (inside (H .delta)) notes (ok-pairs (H .delta) (word ws 0) notes (p .notes-ok));
       cells-fine = k;
       cells-pieced = sound-pieced (H .delta) (word ws 0) cells k (p .chain-ok);
       cells-apart = sound-apart (H .delta) (word ws 0) cells k (p .chain-ok);
       all-clear = all-imp (λ n. every (clear (H .delta) n) cells ≡ true) (λ n. All (Clear (H .delta) n) cells) (keep (inside (H .delta)) notes)
           (λ n a. all-imp (λ c. clear (H .delta) n c ≡ true) (Clear (H .delta) n) cells (λ c. clear-of (H .delta) n c) (every-all (clear (H .delta) n) cells a)) (every-all (λ n. every (clear (H .delta) n) cells) (keep (inside (H .delta)) notes) (p .clear-ok));
     }
-
--- ---- the words
-
-notes-same : (ns ms : List Note) → sameWords (gather noteWords ns) (gather noteWords ms) ≡ true → ns ≡ ms
-notes-same [] [] e = refl
-notes-same [] (m ∷ ms) e = absurd (true≢false (sym e))
-notes-same (n ∷ ns) [] e = absurd (true≢false (sym e))
-notes-same (n ∷ ns) (m ∷ ms) e =
-    let a = eqb (n .lane) (m .lane) in
-    let b = eqb (n .start) (m .start) in
-    let c = eqb (n .end) (m .end) in
-    let d = eqb (n .velocity) (m .velocity) in
-    let r = sameWords (gather noteWords ns) (gather noteWords ms) in
-    let e1 = and-right a (b && (c && (d && r))) e in
-    let e2 = and-right b (c && (d && r)) e1 in
-    let e3 = and-right c (d && r) e2 in
-    ap₂ _∷_ (note-same (eqb-true (n .lane) (m .lane) (and-left a (b && (c && (d && r))) e)) (eqb-true (n .start) (m .start) (and-left b (c && (d && r)) e1)) (eqb-true (n .end) (m .end) (and-left c (d && r) e2)) (eqb-true (n .velocity) (m .velocity) (and-left d r e3)))
-    (notes-same ns ms (and-right d r e3))
 
 -- the notes of a sound shelf are its take's
 pub sound-notes : (H : Header) → 0 < (H .delta) → (ws : List ℕ) → chainShelf H ws ≡ true → notesOf H (takeIn (H .delta) ws) ≡ readNotes (word ws 1) (drop 3 ws)
@@ -286,70 +369,6 @@ sound-notes H z ws e =
     let cells = readCells (word ws 2) (drop (3 + 4 * word ws 1) ws) in
     ap (merge (keep (inside (H .delta)) notes)) (sym (notes-same (keep (λ n. not (inside (H .delta) n)) notes) (lineNotes H cells) (p .same-ok)))
     ∙ merge-parts (inside (H .delta)) notes (ok-sorted (H .delta) (word ws 0) notes (p .notes-ok))
-
-pub length-read : (N : ℕ) (l : List ℕ) → length (readNotes N l) ≡ N
-unfolding readNotes
-length-read zero l = refl
-length-read (suc N) l = ap suc (length-read N (drop 4 l))
-
-pub length-cells : (C : ℕ) (l : List ℕ) → length (readCells C l) ≡ C
-unfolding readCells
-length-cells zero l = refl
-length-cells (suc C) l = ap suc (length-cells C (drop 6 l))
-
-notes-back : (N : ℕ) (l : List ℕ) → 4 * N ≤ length l → gather noteWords (readNotes N l) ++ drop (4 * N) l ≡ l
-unfolding readNotes
-notes-back zero l h = refl
-notes-back (suc N) [] h = absurd (omega arith)
-notes-back (suc N) (a ∷ []) h = absurd (omega arith)
-notes-back (suc N) (a ∷ b ∷ []) h = absurd (omega arith)
-notes-back (suc N) (a ∷ b ∷ c ∷ []) h = absurd (omega arith)
-notes-back (suc N) (a ∷ b ∷ c ∷ d ∷ l) h =
-    let m : 4 * suc N ≡ suc (suc (suc (suc (4 * N)))) = omega arith in
-    rw m (ap (λ (x : List ℕ). a ∷ b ∷ c ∷ d ∷ x) (notes-back N l (omega arith)))
-
-cells-back : (C : ℕ) (l : List ℕ) → 6 * C ≤ length l → gather cellWords (readCells C l) ++ drop (6 * C) l ≡ l
-unfolding readCells
-cells-back zero l h = refl
-cells-back (suc C) [] h = absurd (omega arith)
-cells-back (suc C) (a ∷ []) h = absurd (omega arith)
-cells-back (suc C) (a ∷ b ∷ []) h = absurd (omega arith)
-cells-back (suc C) (a ∷ b ∷ c ∷ []) h = absurd (omega arith)
-cells-back (suc C) (a ∷ b ∷ c ∷ d ∷ []) h = absurd (omega arith)
-cells-back (suc C) (a ∷ b ∷ c ∷ d ∷ e ∷ []) h = absurd (omega arith)
-cells-back (suc C) (a ∷ b ∷ c ∷ d ∷ e ∷ f ∷ l) h =
-    let m : 6 * suc C ≡ suc (suc (suc (suc (suc (suc (6 * C)))))) = omega arith in
-    rw m (ap (λ (x : List ℕ). a ∷ b ∷ c ∷ d ∷ e ∷ f ∷ x) (cells-back C l (omega arith)))
-
-zeros-back : (l : List ℕ) → every (eqb 0) l ≡ true → l ≡ replicate (length l) 0
-zeros-back [] e = refl
-zeros-back (x ∷ l) e = ap₂ _∷_ (sym (eqb-true 0 x (and-left (eqb 0 x) (every (eqb 0) l) e))) (zeros-back l (and-right (eqb 0 x) (every (eqb 0) l) e))
-
--- what is behind the three counts
-tail-back : (W N C : ℕ) (l : List ℕ) → length l + 3 ≡ W → 3 + 4 * N + 6 * C ≤ W → every (eqb 0) (drop (4 * N + 6 * C) l) ≡ true
-    → gather noteWords (readNotes N l) ++ (gather cellWords (readCells C (drop (4 * N) l)) ++ replicate (W - (3 + 4 * N + 6 * C)) 0) ≡ l
-tail-back W N C l n u e =
-    let k : length (drop (4 * N + 6 * C) l) ≡ length l - (4 * N + 6 * C) = length-drop (4 * N + 6 * C) l in
-    let j : length (drop (4 * N + 6 * C) l) ≡ W - (3 + 4 * N + 6 * C) = omega arith in
-    let q : replicate (W - (3 + 4 * N + 6 * C)) 0 ≡ drop (6 * C) (drop (4 * N) l) = ap (λ (x : ℕ). replicate x 0) (sym j) ∙ sym (zeros-back (drop (4 * N + 6 * C) l) e) ∙ sym (drop-drop (6 * C) (4 * N) l) in
-    let d : length (drop (4 * N) l) ≡ length l - 4 * N = length-drop (4 * N) l in
-    ap (λ (x : List ℕ). gather noteWords (readNotes N l) ++ (gather cellWords (readCells C (drop (4 * N) l)) ++ x)) q
-    ∙ ap (λ (x : List ℕ). gather noteWords (readNotes N l) ++ x) (cells-back C (drop (4 * N) l) (omega arith)) ∙ notes-back N l (omega arith)
-
-shelf-back : (W : ℕ) (ws : List ℕ) → length ws ≡ W → 3 + 4 * word ws 1 + 6 * word ws 2 ≤ W → every (eqb 0) (drop (3 + 4 * word ws 1 + 6 * word ws 2) ws) ≡ true
-    → shelfWords W (word ws 0) (readNotes (word ws 1) (drop 3 ws)) (readCells (word ws 2) (drop (3 + 4 * word ws 1) ws)) ≡ ws
-unfolding shelfWords
-shelf-back W [] n u e = absurd (omega arith)
-shelf-back W (a ∷ []) n u e = absurd (omega arith)
-shelf-back W (a ∷ b ∷ []) n u e = absurd (omega arith)
-shelf-back W (a ∷ N ∷ C ∷ l) n u e = shelf-parts W a N C l n u e
-  where
-    shelf-parts : (W a N C : ℕ) (l : List ℕ) → length (a ∷ N ∷ C ∷ l) ≡ W → 3 + 4 * N + 6 * C ≤ W → every (eqb 0) (drop (3 + 4 * N + 6 * C) (a ∷ N ∷ C ∷ l)) ≡ true
-        → shelfWords W a (readNotes N l) (readCells C (drop (3 + 4 * N) (a ∷ N ∷ C ∷ l))) ≡ a ∷ N ∷ C ∷ l
-    shelf-parts W a N C l n u e =
-        let m : 3 + 4 * N + 6 * C ≡ suc (suc (suc (4 * N + 6 * C))) = omega arith in
-        let k : 3 + 4 * N ≡ suc (suc (suc (4 * N))) = omega arith in
-        rw (k, length-read N l, length-cells C (drop (4 * N) l)) (ap (λ (x : List ℕ). a ∷ N ∷ C ∷ x) (tail-back W N C l (omega arith) u (rw m at e)))
 
 -- a sound shelf's words are those of its take
 pub words-again : (H : Header) → 0 < (H .delta) → (ws : List ℕ) → length ws ≡ (H .words) → chainShelf H ws ≡ true → wordsOf H (takeIn (H .delta) ws) ≡ ws
