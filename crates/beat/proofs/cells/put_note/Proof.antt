@@ -1,55 +1,47 @@
+-- `beat::cells::put_note` meets its contract. The measure is how many ticks of the note are left. Assumes nothing.
+use Rattle.beat.proofs.Makes.{Noting, noting-start, beat-asks, noting-beat, within, noted}
+use Rattle.session.proofs.Counts.{note-beats}
+use Prim.Native.Nat.{_-_}
+use native.Mathlib.Omega.{arith}
 use borrow.Author.Needs.{needs}
 use Rattle.beat.proofs.cells.put_note.Statement.{statement}
 use Rattle.beat.proofs.cells.put_note.Tie as tie
-use Rattle.beat.proofs.cells.put_note.Reads as reads
-use Rattle.beat.proofs.cells.put_note.Lts as lts
-use Rattle.beat.proofs.cells.put_beat.Reads as put-beat-reads
 
 abbrev Inv-loop : tie.InvT-loop
-Inv-loop s₀ at delta n beat₀ line₀ to₀ s beat line to = ?
+Inv-loop s₀ at delta n beat₀ line₀ to₀ s beat line to = Noting s₀ s at delta n beat line to
 
 abbrev μ-loop : tie.MeasureT-loop
-μ-loop s₀ at delta n beat₀ line₀ to₀ s beat line to = ?
+μ-loop s₀ at delta n beat₀ line₀ to₀ s beat line to = n .end - line
 
--- src/cells.rt:33:20
 div-beat : tie.Need-div-beat Inv-loop μ-loop
 div-beat c = search needs
 
--- src/cells.rt:34:20
 mul-line : tie.Need-mul-line Inv-loop μ-loop
-mul-line c = search needs
+mul-line c = omega (arith, note-beats (c .before .before .args .delta) (c .before .before .args .n) (c .before .before .pre .note))
 
--- src/cells.rt:36:5
 loop-holds : tie.Need-loop-holds Inv-loop μ-loop
-loop-holds c = search needs
+loop-holds c = noting-start _ _ _ _
 
--- src/cells.rt:37:9
 put-beat-requires : tie.Need-put-beat-requires Inv-loop μ-loop
-put-beat-requires c κs = search needs
+put-beat-requires c κs = beat-asks (c .before .before .before .before .before .before .pre) (c .before .before .before .loop .inv) (c .before .if1 .taken)
 
--- src/cells.rt:38:9
 add-line : tie.Need-add-line Inv-loop μ-loop
-add-line c = search needs
+add-line c = omega (arith, c .before .before .before .before .before .before .before .before .before .pre .note, note-beats (c .before .before .before .before .before .before .before .before .before .args .delta) (c .before .before .before .before .before .before .before .before .before .args .n) (c .before .before .before .before .before .before .before .before .before .pre .note))
 
--- src/cells.rt:39:9
 add-beat : tie.Need-add-beat Inv-loop μ-loop
-add-beat c = search needs
+add-beat c = omega (arith, within (c .before .before .before .before .before .before .before .before .before .pre) (c .before .before .before .before .before .before .loop .inv) (c .before .before .before .before .if1 .taken), note-beats (c .before .before .before .before .before .before .before .before .before .args .delta) (c .before .before .before .before .before .before .before .before .before .args .n) (c .before .before .before .before .before .before .before .before .before .pre .note))
 
--- src/cells.rt:36:5
 loop-less : tie.Need-loop-less Inv-loop μ-loop
-loop-less c = search needs
+loop-less c = omega (arith, c .before .before .before .before .before .before .before .before .before .pre .note, note-beats (c .before .before .before .before .before .before .before .before .before .args .delta) (c .before .before .before .before .before .before .before .before .before .args .n) (c .before .before .before .before .before .before .before .before .before .pre .note))
 
--- src/cells.rt:36:5
 loop-again : tie.Need-loop-again Inv-loop μ-loop
-loop-again c = search needs
+loop-again c = noting-beat (c .before .before .before .before .before .before .before .before .before .pre) (c .before .before .before .before .before .before .loop .inv) (c .before .before .before .before .if1 .taken) (c .before .before .put-beat .ensures)
 
--- src/cells.rt:29:1
 same-length : tie.Need-same-length Inv-loop μ-loop
-same-length c = search needs
+same-length c = c .before .before .loop .inv .writes .long
 
--- src/cells.rt:29:1
 returns : tie.Need-returns Inv-loop μ-loop
-returns c = search needs
+returns c = noted (c .before .before .before .before .before .pre) (c .before .before .loop .inv) (c .if1 .left)
 
 pub put-note-spec : {M : Type 1} → statement M
 put-note-spec =

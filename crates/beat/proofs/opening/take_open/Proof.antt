@@ -1,38 +1,37 @@
+-- `beat::opening::take_open` meets its contract. Assumes nothing.
+use Rattle.model.specs.Session.{sessionLength, freshWords}
+use Rattle.beat.proofs.Opens.{open-refused, open-done}
+use Rattle.model.proofs.Headers.{in-range, valid-means, refused-means}
+use Rattle.model.specs.Answers.{answerOf}
+use mathlib.Core.Path.{sym, ap, _∙_}
 use borrow.Author.Needs.{needs}
 use Rattle.beat.proofs.opening.take_open.Statement.{statement}
 use Rattle.beat.proofs.opening.take_open.Tie as tie
-use Rattle.beat.proofs.opening.take_open.Reads as reads
-use Rattle.beat.proofs.opening.take_open.Lts as lts
-use Rattle.beat.proofs.opening.put_fresh.Reads as put-fresh-reads
-use Rattle.model.proofs.Header.new.Reads as new-reads
 
--- src/opening.rt:16:9
 new-requires : tie.Need-new-requires
 new-requires c κs = search needs
 
--- src/opening.rt:18:29
 enum-known-answer : tie.Need-enum-known-answer
 enum-known-answer c = search needs
 
--- src/opening.rt:19:13
 put-fresh-requires : tie.Need-put-fresh-requires
-put-fresh-requires c κs = search needs
+put-fresh-requires c κs =
+    let v = valid-means _ _ _ (sym (ap answerOf (c .before .before .answer .given .1)) ∙ c .before .before .before .before .new .ensures .0) in
+    in-range (v .0) .exact ∙ ap sessionLength (sym (v .1))
 
--- src/opening.rt:22:34
 enum-told : tie.Need-enum-told
 enum-told c = search needs
 
--- src/opening.rt:11:1
 same-length : tie.Need-same-length
 same-length c = search needs
 
--- src/opening.rt:11:1
 returns : tie.Need-returns
-returns c = search needs
+returns c =
+    let v = valid-means _ _ _ (sym (ap answerOf (c .before .before .before .before .before .answer .given .1)) ∙ c .before .before .before .before .before .before .before .new .ensures .0) in
+    open-done _ _ (v .0) (c .before .before .put-fresh .ensures ∙ ap freshWords (v .1))
 
--- src/opening.rt:11:1
 returns-2 : tie.Need-returns-2
-returns-2 c = search needs
+returns-2 c = open-refused _ _ (refused-means _ _ (sym (ap answerOf (c .enum-told .given .1)) ∙ c .before .before .new .ensures .0))
 
 pub take-open-spec : {M : Type 1} → statement M
 take-open-spec =
