@@ -123,14 +123,15 @@ module _ {s₀ s : List ℕ} {at δ : ℕ} {n : Note} {beat line to : ℕ} (h : 
           top = h .note .3;
           few = h .note .1;
           room =
-              omega
-              (arith,
-              left .place,
-              left .long,
-              h .room,
-              length-cells (cellsOfNote δ n),
-              length-cells (cellsInBeat δ n beat),
-              length-append (gather cellWords (cellsInBeat δ n beat)) (gather cellWords (beatsFrom δ n (beat + 1))));
+              omega (
+                arith,
+                left .place,
+                left .long,
+                h .room,
+                length-cells (cellsOfNote δ n),
+                length-cells (cellsInBeat δ n beat),
+                length-append (gather cellWords (cellsInBeat δ n beat)) (gather cellWords (beatsFrom δ n (beat + 1))),
+              );
         }
 
     pub noting-beat : {t : List ℕ} {r : ℕ} → Made s to (cellsInBeat δ n beat) t r → Noting s₀ t at δ n (beat + 1) (line + δ) r
@@ -215,15 +216,16 @@ module _ {s₀ s : List ℕ} {at count δ end from to : ℕ} (a : CellsAsks s₀
           record {
             note = count-asks δ (l .beats) n (l .range) (ranged δ (l .beats) n right);
             room =
-                omega
-                (arith,
-                ahead-of .place,
-                ahead-of .long,
-                l .ends,
-                a .room,
-                length-cells (cellsAt δ s₀ at count),
-                length-cells (cellsOfNote δ n),
-                length-append (gather cellWords (cellsOfNote δ n)) (gather cellWords (gather (cellsOfNote δ) (notesFrom s₀ end (from + 4)))));
+                omega (
+                  arith,
+                  ahead-of .place,
+                  ahead-of .long,
+                  l .ends,
+                  a .room,
+                  length-cells (cellsAt δ s₀ at count),
+                  length-cells (cellsOfNote δ n),
+                  length-append (gather cellWords (cellsOfNote δ n)) (gather cellWords (gather (cellsOfNote δ) (notesFrom s₀ end (from + 4)))),
+                );
           }
 
       pub celling-note : {t : List ℕ} {r : ℕ} → Made s to (cellsOfNote δ n) t r → Celling s₀ t at count δ end (from + 4) r

@@ -20,7 +20,7 @@ fresh-done s h long s₁ e₁ s₂ e₂ =
     let same : length s₁ ≡ length s = ap length e₁ ∙ length-splice s 0 (wordsOfHeader h) in
     let z : length s₁ - 4 ≡ h .shelves * h .words = omega arith in
     let all : length (wordsOfHeader h ++ replicate (h .shelves * h .words) 0) ≡ length s =
-        length-append (wordsOfHeader h) (replicate (h .shelves * h .words) 0) ∙ omega (arith, length-replicate {A = ℕ} (h .shelves * h .words) 0) in
+    length-append (wordsOfHeader h) (replicate (h .shelves * h .words) 0) ∙ omega (arith, length-replicate {A = ℕ} (h .shelves * h .words) 0) in
     e₂ ∙ rw (z, e₁) (sym (splice-append s 0 (wordsOfHeader h) (replicate (h .shelves * h .words) 0)))
     ∙ splice-whole s (wordsOfHeader h ++ replicate (h .shelves * h .words) 0) all
 

@@ -13,7 +13,16 @@ fn put_cell(s: &mut [u32], at: usize, n: Note, beat: u32, side: u32, line: u32)
     requires { ⌜ (at + 6 ≤ length (now s)) × (n .start ≤ line) × (line ≤ n .end) ⌝ }
     ensures { λ _. ⌜ now (s .exit) ≡ splice (now (s .entry)) at (cellWords (cellAt n beat side line)) ⌝ }
 {
-    words::put_six(s, at, n.lane, beat, side, line - n.start, n.end - line, n.velocity);
+    words::put_six(
+        s,
+        at,
+        n.lane,
+        beat,
+        side,
+        line - n.start,
+        n.end - line,
+        n.velocity,
+    );
 }
 
 // The cells of a note's piece in a beat, which opens at tick `line`. Returns the place behind them.

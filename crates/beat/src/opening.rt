@@ -9,7 +9,13 @@ use model::HeaderAnswer;
 
 // Writes δ, ε, K, W and zeros. Returns 1, and changes nothing, where they are out of range or the list is not as long as they say.
 #[no_mangle]
-pub extern "C" fn take_open(session: &mut [u32], delta: u32, epsilon: u32, shelves: u32, shelf_words: u32) -> u32
+pub extern "C" fn take_open(
+    session: &mut [u32],
+    delta: u32,
+    epsilon: u32,
+    shelves: u32,
+    shelf_words: u32,
+) -> u32
     ensures number { λ r. ⌜ r ≡ number (now (session .entry)) (openCall (record { delta = delta; epsilon = epsilon; shelves = shelves; words = «shelf_words» })) ⌝ }
     ensures words { λ _. ⌜ now (session .exit) ≡ after (now (session .entry)) (openCall (record { delta = delta; epsilon = epsilon; shelves = shelves; words = «shelf_words» })) ⌝ }
 {
