@@ -13,15 +13,19 @@
 //! - [`split`](mod@split), [`join`](mod@join): cutting and joining
 //! - [`track`], [`load`](mod@load), [`write`](mod@write): files
 //! - [`call`], [`frame`], [`cutter`]: calls as data, as lines, and the program
+//! - [`plain`]: the slow and literal machine that the calls are tested against
+//! - [`random`], [`generate`]: seeded numbers, and lists of calls made from them
 
 pub mod call;
 pub mod cell;
 pub mod cutter;
 pub mod frame;
+pub mod generate;
 pub mod header;
 pub mod join;
 pub mod lay;
 pub mod load;
+pub mod plain;
 pub mod question;
 pub mod random;
 pub mod recording;
