@@ -53,7 +53,7 @@ fn assert_whole_recordings(machine: &Machine, session: &[u32], context: &str) ->
 fn random_lists_of_calls() {
     let mut counts = [0u32; 16];
     let mut whole = 0;
-    for seed in 0..2500 {
+    for seed in 0..5000 {
         let mut random = Random::new(seed);
         let sizes = Sizes {
             most_beats: random.pick(&[2, 4, 7]),
@@ -76,7 +76,7 @@ fn random_lists_of_calls() {
     for number in [0, 2, 3, 5, 6, 7, 8, 9, 10, 11, 12, 13, 14, 15] {
         assert!(counts[number] > 20, "number {number} occurs only {} times", counts[number]);
     }
-    assert!(counts[0] > 80_000 && whole > 10_000, "{counts:?}, {whole}");
+    assert!(counts[0] > 160_000 && whole > 20_000, "{counts:?}, {whole}");
 }
 
 /// A session whose recording lies cut beat by beat in the shelves from 1 on.

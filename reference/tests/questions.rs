@@ -214,7 +214,7 @@ fn file_of(situation: &mut Situation) -> &mut Vec<u8> {
 }
 
 #[test]
-fn load_asks_1_2_9_10_11_12_8() {
+fn load_asks_1_2_9_10_11_12() {
     check_all(
         "load",
         &situation(Call::Load { shelf: 2, file: small_file() }),
@@ -371,88 +371,5 @@ fn open_asks_about_its_arguments_and_the_length() {
         let mut lent = situation(open(10, 3, shelves, words));
         lent.session = vec![5; 4 + (shelves * words) as usize];
         check("open", lent, 1);
-    }
-}
-
-#[test]
-fn lay_lists() {
-    let lay = |beats, notes: &[u32]| situation(Call::Lay { shelf: 2, beats, notes: notes.to_vec() });
-    check("empty list", lay(0, &[]), 0);
-    check("empty list", lay(4096, &[]), 0);
-    check("too many beats", lay(4097, &[]), 6);
-    check("too many beats", lay(u32::MAX, &[1]), 6);
-    let two = |second: [u32; 4]| lay(2, &[&[60, 4, 10, 100], &second[..]].concat());
-    for second in [[60, 10, 20, 1], [60, 11, 12, 127], [61, 0, 20, 5], [2047, 3, 4, 5]] {
-        check("legal", two(second), 0);
-    }
-    for second in [
-        [60, 9, 20, 1],
-        [60, 4, 10, 100],
-        [60, 2, 3, 100],
-        [59, 10, 20, 100],
-        [2048, 10, 20, 100],
-        [u32::MAX, 10, 20, 100],
-        [61, 10, 10, 100],
-        [61, 11, 10, 100],
-        [61, 10, 21, 100],
-        [61, 10, u32::MAX, 100],
-        [61, 10, 20, 0],
-        [61, 10, 20, 128],
-    ] {
-        check("illegal", two(second), 7);
-    }
-    for extra in 1..4 {
-        check("no whole note", lay(2, &[60, 4, 10, 100, 61, 4, 10][..4 + extra]), 7);
-    }
-}
-
-#[test]
-fn results_that_just_fit() {
-    // Seven words for a note inside its beat, 13 for one that ends on a line.
-    for (words, note, expected) in [
-        (7, [60, 3, 5, 9], 0),
-        (6, [60, 3, 5, 9], 8),
-        (13, [60, 3, 10, 9], 0),
-        (12, [60, 3, 10, 9], 8),
-        (19, [60, 3, 12, 9], 0),
-        (18, [60, 3, 12, 9], 8),
-        (31, [60, 3, 22, 9], 0),
-        (30, [60, 3, 22, 9], 8),
-        (31, [60, 0, 20, 9], 0),
-        (30, [60, 0, 20, 9], 8),
-    ] {
-        let session = fresh(10, 3, 2, words);
-        let call = Call::Lay { shelf: 1, beats: 3, notes: note.to_vec() };
-        check("just fits", Situation { session, call, output: vec![] }, expected);
-    }
-}
-
-#[test]
-fn joins_that_just_fit() {
-    // Hidden halves of 9 words each: the join of both adds a note.
-    for (words, expected) in [(19, 0), (20, 0)] {
-        let mut session = fresh(10, 3, 4, words);
-        assert_eq!(lay(&mut session, 0, 2, &[60, 8, 12, 100]), 0);
-        assert_eq!(reference::split(&mut session, 0, 1, 1, 2), 0);
-        let call = Call::Join { first: 1, second: 2, result: 3 };
-        check("hidden halves", Situation { session, call, output: vec![] }, expected);
-    }
-    // Written by hand, because a lay of the whole note would not fit.
-    for (words, expected) in [(18, 8), (19, 0)] {
-        let mut session = fresh(10, 3, 4, words);
-        shelf_mut(&mut session, 1)[..9].copy_from_slice(&[1, 0, 1, 60, 0, 1, 2, 2, 100]);
-        shelf_mut(&mut session, 2)[..9].copy_from_slice(&[1, 0, 1, 60, 0, 0, 2, 2, 100]);
-        let call = Call::Join { first: 1, second: 2, result: 3 };
-        check("hidden halves", Situation { session, call, output: vec![] }, expected);
-    }
-    // Two shown halves of 13 words become one note: 19 words, not 23.
-    for (words, expected) in [(18, 8), (19, 0)] {
-        let mut session = fresh(10, 3, 4, words);
-        let left = [1, 1, 1, 60, 5, 10, 100, 60, 0, 1, 5, 5, 100];
-        let right = [1, 1, 1, 60, 0, 5, 100, 60, 0, 0, 5, 5, 100];
-        shelf_mut(&mut session, 1)[..13].copy_from_slice(&left);
-        shelf_mut(&mut session, 2)[..13].copy_from_slice(&right);
-        let call = Call::Join { first: 1, second: 2, result: 3 };
-        check("shown halves", Situation { session, call, output: vec![] }, expected);
     }
 }
