@@ -8,7 +8,7 @@ pub const MOST_DIGITS: usize = 4000;
 /// The call that a line without its line feed stands for; none if the line
 /// is too long or malformed.
 pub fn parse(line: &[u8]) -> Option<Call> {
-    if line.len() > MOST_DIGITS || line.len() % 2 != 0 {
+    if line.len() > MOST_DIGITS || !line.len().is_multiple_of(2) {
         return None;
     }
     let bytes: Vec<u8> = line.chunks(2).map(byte).collect::<Option<_>>()?;

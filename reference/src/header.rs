@@ -67,13 +67,7 @@ pub fn read(session: &[u32]) -> Result<Header, u32> {
 }
 
 /// Makes the lent words a fresh session: every shelf is the empty take.
-pub fn open(
-    session: &mut [u32],
-    delta: u32,
-    epsilon: u32,
-    shelves: u32,
-    shelf_words: u32,
-) -> u32 {
+pub fn open(session: &mut [u32], delta: u32, epsilon: u32, shelves: u32, shelf_words: u32) -> u32 {
     let words = [delta, epsilon, shelves, shelf_words];
     if let Err(number) = check(words, session.len()) {
         return number;

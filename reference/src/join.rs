@@ -36,12 +36,7 @@ fn try_join(session: &mut [u32], first: u32, second: u32, result: u32) -> Result
     }
 }
 
-fn join_takes(
-    header: &Header,
-    first: &Take,
-    second: &Take,
-    target: &mut [u32],
-) -> Result<(), u32> {
+fn join_takes(header: &Header, first: &Take, second: &Take, target: &mut [u32]) -> Result<(), u32> {
     let beats = first.beats + second.beats;
     if beats > MOST_BEATS {
         return Err(question::BEATS);

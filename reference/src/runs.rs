@@ -21,8 +21,7 @@ impl<'a> Runs<'a> {
     /// and is bound to it. One more than a closing cell's place is that place.
     fn continues(&self, closing: &Cell) -> bool {
         self.cells.get(self.at).is_some_and(|opening| {
-            place_of(opening) == place_of(closing) + 1
-                && bound(closing, opening, self.epsilon)
+            place_of(opening) == place_of(closing) + 1 && bound(closing, opening, self.epsilon)
         })
     }
 
@@ -44,7 +43,7 @@ impl<'a> Runs<'a> {
 
     /// The run that begins with an opening cell. A bound opening cell never
     /// comes here, because its run has passed it.
-    fn from_opening(&mut self, cell: &Cell) -> Option<Note> {
+    fn opening_run(&mut self, cell: &Cell) -> Option<Note> {
         let [lane, beat, _, _, after, velocity] = *cell;
         let start = beat * self.delta;
         if after >= self.delta {
@@ -56,7 +55,7 @@ impl<'a> Runs<'a> {
     }
 
     /// The run that begins with a closing cell whose piece starts in its beat.
-    fn from_closing(&mut self, cell: &'a Cell) -> Option<Note> {
+    fn closing_run(&mut self, cell: &'a Cell) -> Option<Note> {
         let [lane, beat, _, before, _, velocity] = *cell;
         let line = (beat + 1) * self.delta;
         if !stands_alone(cell, self.epsilon) && !self.continues(cell) {
@@ -74,8 +73,8 @@ impl Iterator for Runs<'_> {
             let cell = self.cells.get(self.at)?;
             self.at += 1;
             let run = match cell[2] {
-                0 => self.from_opening(cell),
-                _ => self.from_closing(cell),
+                0 => self.opening_run(cell),
+                _ => self.closing_run(cell),
             };
             if run.is_some() {
                 return run;

@@ -15,20 +15,13 @@ pub fn split(session: &mut [u32], take: u32, beat: u32, left: u32, right: u32) -
     question::number(try_split(session, take, beat, left, right))
 }
 
-fn try_split(
-    session: &mut [u32],
-    take: u32,
-    beat: u32,
-    left: u32,
-    right: u32,
-) -> Result<(), u32> {
+fn try_split(session: &mut [u32], take: u32, beat: u32, left: u32, right: u32) -> Result<(), u32> {
     let header = header::read(session)?;
     header.has_shelves(&[take, left, right])?;
     // Three different shelves, which the disjoint borrow asks for as well.
     let places = [take, left, right].map(|shelf| header.place(shelf));
-    let [source, left, right] = session
-        .get_disjoint_mut(places)
-        .map_err(|_| question::WRITTEN_SHELVES)?;
+    let [source, left, right] =
+        session.get_disjoint_mut(places).map_err(|_| question::WRITTEN_SHELVES)?;
     let take = sound::read(source, &header).ok_or(question::SOUND)?;
     if beat > take.beats {
         return Err(question::SPLIT_BEAT);

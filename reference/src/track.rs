@@ -4,8 +4,13 @@ use crate::question;
 
 /// What an event means for the notes.
 pub enum Event {
-    Start { lane: u32, velocity: u8 },
-    End { lane: u32 },
+    Start {
+        lane: u32,
+        velocity: u8,
+    },
+    End {
+        lane: u32,
+    },
     EndOfTrack,
     /// Read over.
     Other,

@@ -192,7 +192,9 @@ fn two_velocities(left: [u32; 2], right: [u32; 2]) -> Vec<u32> {
 #[test]
 fn a_merged_note_has_the_velocity_of_its_first_piece() {
     // Both shown, both hidden, only the left hidden, only the right hidden.
-    for (left, right) in [([4, 16], [3, 18]), ([9, 11], [8, 12]), ([9, 11], [5, 16]), ([4, 15], [8, 12])] {
+    for (left, right) in
+        [([4, 16], [3, 18]), ([9, 11], [8, 12]), ([9, 11], [5, 16]), ([4, 15], [8, 12])]
+    {
         let s = two_velocities(left, right);
         assert_eq!(notes(&s, 4), [[LANE, left[0], right[1], 20]], "{left:?} {right:?}");
         let velocities: Vec<u32> = cells(&s, 4).iter().map(|cell| cell[5]).collect();

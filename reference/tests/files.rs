@@ -1,11 +1,11 @@
-//! Files: what load reads and refuses, what write writes, and both together.
+//! Load: every kind of event, and everything that makes a file refused.
 
 mod common;
 
-use common::{cells, compared, file, fresh, notes, shelf};
+use common::{cells, compared, fresh, notes, shelf};
 use reference::call::Call;
+use reference::generate::files;
 use reference::generate::notes::{self as note_lists, Measures};
-use reference::generate::{calls, files};
 use reference::random::Random;
 
 /// A file of δ 10 with one track.
@@ -218,7 +218,9 @@ fn headers() {
     for (place, byte) in [(7, 5), (7, 0), (4, 1), (5, 1), (6, 1), (4, 0xFF), (7, 19)] {
         assert_eq!(changed(place, byte), Err(9), "byte {place} is {byte}");
     }
-    for (place, byte) in [(8, 1), (9, 1), (9, 2), (10, 1), (11, 0), (11, 2), (12, 1), (12, 0x80), (13, 9), (13, 11)] {
+    for (place, byte) in
+        [(8, 1), (9, 1), (9, 2), (10, 1), (11, 0), (11, 2), (12, 1), (12, 0x80), (13, 9), (13, 11)]
+    {
         assert_eq!(changed(place, byte), Err(10), "byte {place} is {byte}");
     }
     // The excess of a longer header is passed over.
@@ -266,102 +268,13 @@ fn cells_of_a_loaded_take() {
     let file = with_track(&[5, 0x91, 60, 9, 17, 60, 0, 8, 0xFF, 0x2F, 0]);
     assert_eq!(reference::load(&mut session, 0, &file), 0);
     assert_eq!(notes(&session, 0), [[188, 5, 22, 9]]);
-    let expected = [[188, 0, 1, 5, 12, 9], [188, 1, 0, 5, 12, 9], [188, 1, 1, 15, 2, 9], [188, 2, 0, 15, 2, 9]];
-    assert_eq!(cells(&session, 0), expected);
-}
-
-#[test]
-fn the_order_of_written_events() {
-    let mut session = fresh(10, 3, 2, 200);
-    let list = [[3, 0, 10, 1], [3, 10, 20, 2], [5, 4, 10, 3], [200, 10, 12, 4], [2047, 2, 10, 127]];
-    assert_eq!(reference::lay(&mut session, 0, 30, list.as_flattened()), 0);
-    let track = [
-        &[0, 0x90, 3, 1, 2, 0x9F, 127, 127, 2, 0x90, 5, 3, 6, 0x80, 3, 64][..],
-        &[0, 0x80, 5, 64, 0, 0x8F, 127, 64, 0, 0x90, 3, 2, 0, 0x91, 72, 4],
-        &[2, 0x81, 72, 64, 8, 0x80, 3, 64, 0x82, 0x18, 0xFF, 0x2F, 0],
+    let expected = [
+        [188, 0, 1, 5, 12, 9],
+        [188, 1, 0, 5, 12, 9],
+        [188, 1, 1, 15, 2, 9],
+        [188, 2, 0, 15, 2, 9],
     ];
-    assert_eq!(file(&session, 0), with_track(&track.concat()));
-}
-
-#[test]
-fn written_times_take_the_fewest_groups() {
-    for (ticks, groups) in [
-        (127, &[0x7F][..]),
-        (128, &[0x81, 0]),
-        (16_383, &[0xFF, 0x7F]),
-        (16_384, &[0x81, 0x80, 0]),
-        (2_097_151, &[0xFF, 0xFF, 0x7F]),
-        (2_097_152, &[0x81, 0x80, 0x80, 0]),
-        (134_213_631, &[0xBF, 0xFF, 0xDF, 0x7F]),
-    ] {
-        let mut session = fresh(32_767, 3, 1, 30_000);
-        assert_eq!(reference::lay(&mut session, 0, 4096, &[7, ticks, ticks + 1, 9]), 0);
-        let written = file(&session, 0);
-        assert_eq!(written[22..22 + groups.len()], *groups, "{ticks} ticks");
-        assert_eq!(written[22 + groups.len()..][..3], [0x90, 7, 9], "{ticks} ticks");
-    }
-}
-
-#[test]
-fn all_sizes_of_output_around_a_file() {
-    let mut session = fresh(10, 3, 1, 200);
-    let list = [[60, 5, 25, 100], [61, 8, 12, 80]];
-    assert_eq!(reference::lay(&mut session, 0, 30, list.as_flattened()), 0);
-    let length = file(&session, 0).len();
-    for size in 0..length + 20 {
-        let mut output: Vec<u8> = (0..size).map(|place| place as u8 ^ 0x5A).collect();
-        let call = Call::Write { shelf: 0 };
-        let number = compared(&call, &mut session, &mut output, &format!("{size} bytes"));
-        assert_eq!(number, if size < length { 15 } else { 0 }, "{size} bytes of {length}");
-    }
-}
-
-/// A recording with anything from no notes to several hundred.
-fn random_recording(random: &mut Random) -> (Vec<u32>, Measures) {
-    let delta = random.pick(&[1, 2, 7, 10, 96, 480, 32_767]);
-    let m = Measures { delta, epsilon: random.between(1, delta), beats: random.between(0, 40) };
-    let most = random.pick(&[1, 6, 60]);
-    let lanes = note_lists::lanes(random, most);
-    (note_lists::list(random, &m, &lanes), m)
-}
-
-#[test]
-fn written_then_loaded() {
-    for seed in 0..1500 {
-        let mut random = Random::new(8_000_000 + seed);
-        let (list, m) = random_recording(&mut random);
-        let mut session = fresh(m.delta, m.epsilon, 3, 60_000);
-        assert_eq!(reference::lay(&mut session, 0, m.beats, &list), 0, "seed {seed}");
-        let written = file(&session, 0);
-        assert_eq!(reference::load(&mut session, 1, &written), 0, "seed {seed}");
-        assert!(shelf(&session, 0) == shelf(&session, 1), "seed {seed}");
-        // The same list through a file with all liberties.
-        let free = files::file(&mut random, m.delta, &list, m.beats * m.delta);
-        assert_eq!(reference::load(&mut session, 2, &free), 0, "seed {seed}: {free:02X?}");
-        assert!(shelf(&session, 0) == shelf(&session, 2), "seed {seed}");
-    }
-}
-
-#[test]
-fn written_after_cuts_then_loaded() {
-    let sizes = calls::Sizes { most_beats: 6, most_lanes: 4, odd: 1000 };
-    for seed in 0..300 {
-        let mut random = Random::new(9_000_000 + seed);
-        let delta = random.between(2, 12);
-        let mut session = fresh(delta, random.between(1, delta), 6, 600);
-        for _ in 0..40 {
-            let call = calls::next(&mut random, &session, &sizes);
-            reference::call::perform(&call, &mut session, &mut []);
-        }
-        for number in 0..5 {
-            let written = file(&session, number);
-            // Hidden pieces may have more cells than the notes of the file.
-            if reference::load(&mut session, 5, &written) == 0 {
-                assert_eq!(shelf(&session, 5)[0], shelf(&session, number)[0], "seed {seed}");
-                assert_eq!(notes(&session, 5), notes(&session, number), "seed {seed}");
-            }
-        }
-    }
+    assert_eq!(cells(&session, 0), expected);
 }
 
 #[test]
@@ -389,7 +302,8 @@ fn random_bytes() {
     for seed in 0..30_000 {
         let mut random = Random::new(11_000_000 + seed);
         let length = random.below(60);
-        let common = [0, 0, 1, 2, 0x2F, 60, 60, 61, 0x80, 0x90, 0x90, 0x9F, 0xB0, 0xC0, 0xF0, 0xF7, 0xFF];
+        let common =
+            [0, 0, 1, 2, 0x2F, 60, 60, 61, 0x80, 0x90, 0x90, 0x9F, 0xB0, 0xC0, 0xF0, 0xF7, 0xFF];
         let mut bytes: Vec<u8> = (0..length)
             .map(|_| if random.one_in(6) { random.below(256) as u8 } else { random.pick(&common) })
             .collect();

@@ -1,9 +1,10 @@
 //! The cutter: the paper's example, malformed lines and its limits.
 
 use reference::call::Call;
-use reference::cutter::run;
+use reference::cutter::{run, Cutter};
 use reference::frame::{parse, print};
 use reference::generate::frames::Frames;
+use reference::plain;
 use std::io::BufReader;
 
 /// The cutter's whole output for an input, read in parts of various sizes.
@@ -119,14 +120,17 @@ fn before_an_accepted_open() {
 05
 ";
     assert_eq!(cut(calls.as_bytes()), "01\n01\n01\n01\n01\nFF\n");
-    let refused = "010000000000000003000000040000002\n0100000000000000030000000400000020\n0500000000\n";
+    let refused =
+        "010000000000000003000000040000002\n0100000000000000030000000400000020\n0500000000\n";
     assert_eq!(cut(refused.as_bytes()), "FF\n01\n01\n");
 }
 
 #[test]
 fn lines_of_4000_digits() {
     // A load of 1,995 file bytes is well formed; one digit or byte more is not.
-    for (digits, expected) in [(3998, "09\n"), (4000, "09\n"), (4001, "FF\n"), (4002, "FF\n"), (90_000, "FF\n")] {
+    for (digits, expected) in
+        [(3998, "09\n"), (4000, "09\n"), (4001, "FF\n"), (4002, "FF\n"), (90_000, "FF\n")]
+    {
         let line = format!("06{}", "0".repeat(digits - 2));
         assert_eq!(after_open(&line), expected, "{digits} digits");
         assert_eq!(after_open(&(line + "\n0500000004\n")), expected.to_owned() + "02\n");
@@ -153,7 +157,10 @@ fn a_refused_open_keeps_the_session_and_an_accepted_one_starts_afresh() {
     let write = "0500000000\n";
     let refused = "010000000A0000000B0000000400000020\n";
     let kept = after_open(&format!("{lay}{refused}{write}"));
-    assert_eq!(kept, "00\n01\n004D5468640000000600000001000A4D54726B0000000C08903C6404803C4008FF2F00\n");
+    assert_eq!(
+        kept,
+        "00\n01\n004D5468640000000600000001000A4D54726B0000000C08903C6404803C4008FF2F00\n"
+    );
     let afresh = after_open(&format!("{lay}{OPEN}{write}"));
     assert_eq!(afresh, "00\n00\n004D5468640000000600000001000A4D54726B0000000400FF2F00\n");
 }
@@ -225,6 +232,30 @@ fn printed_calls_are_read_back() {
 }
 
 #[test]
+fn random_frames_against_the_literal_calls() {
+    for seed in 0..20 {
+        let mut cutter = Cutter::default();
+        for (place, line) in Frames::new(seed).take(600).enumerate() {
+            let mut answer = Vec::new();
+            let session = cutter.session().to_vec();
+            cutter.answer(&line, &mut answer);
+            let expected = match parse(&line) {
+                None => "FF\n".to_owned(),
+                Some(Call::Open { .. }) => continue,
+                Some(call) => {
+                    let outcome = plain::calls::perform(&call, &session, &[0; 8192]);
+                    assert!(cutter.session() == outcome.session, "seed {seed}, line {place}");
+                    let file = &outcome.output[..outcome.count as usize];
+                    let digits: String = file.iter().map(|byte| format!("{byte:02X}")).collect();
+                    format!("{:02X}{digits}\n", outcome.number)
+                }
+            };
+            assert_eq!(String::from_utf8(answer).unwrap(), expected, "seed {seed}, line {place}");
+        }
+    }
+}
+
+#[test]
 fn random_frames_reach_every_number() {
     let mut input = Vec::new();
     for line in Frames::new(77).take(20_000) {
@@ -235,7 +266,10 @@ fn random_frames_reach_every_number() {
     run(&input[..], &mut output).unwrap();
     let output = String::from_utf8(output).unwrap();
     assert_eq!(output.lines().count(), 20_000);
-    for number in ["00", "01", "02", "03", "05", "06", "07", "08", "09", "0A", "0B", "0C", "0D", "0E", "0F", "FF"] {
+    for number in [
+        "00", "01", "02", "03", "05", "06", "07", "08", "09", "0A", "0B", "0C", "0D", "0E", "0F",
+        "FF",
+    ] {
         let count = output.lines().filter(|line| line.starts_with(number)).count();
         assert!(count >= 10, "{number} occurs {count} times");
     }

@@ -13,7 +13,10 @@ fn opened(call: &Call) -> (Vec<u32>, Machine) {
     let Call::Open { delta, epsilon, shelves, shelf_words } = *call else {
         panic!("not an open: {call:?}");
     };
-    (fresh(delta, epsilon, shelves, shelf_words), Machine::new(delta, epsilon, shelves, shelf_words))
+    (
+        fresh(delta, epsilon, shelves, shelf_words),
+        Machine::new(delta, epsilon, shelves, shelf_words),
+    )
 }
 
 /// All words of all shelves are those that the histories give.

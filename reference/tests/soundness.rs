@@ -1,17 +1,10 @@
-//! Question 4: each clause of soundness broken alone, random damage, and
-//! calls on sound shelves that no list of calls led to.
+//! Question 4: each clause of soundness broken alone.
 
 mod common;
 
 use common::{compared, fresh, measures, shelf, shelf_mut};
 use reference::call::Call;
-use reference::generate::calls::{self, Sizes};
-use reference::generate::notes::{self, Measures};
-use reference::generate::takes::cells_and_inner_notes;
 use reference::plain::sound::{broken, Clause};
-use reference::plain::{piece, rules};
-use reference::random::Random;
-use reference::{header, sound};
 
 /// A take as lists, to change one thing in it.
 #[derive(Clone)]
@@ -50,11 +43,8 @@ fn made_by_calls() -> (Vec<u32>, Lists) {
     assert_eq!(reference::lay(&mut session, 0, 6, list.as_flattened()), 0);
     assert_eq!(reference::split(&mut session, 0, 1, 1, 2), 0);
     assert_eq!(reference::split(&mut session, 2, 4, 0, 1), 0);
-    let lists = Lists {
-        beats: 4,
-        notes: common::notes(&session, 0),
-        cells: common::cells(&session, 0),
-    };
+    let lists =
+        Lists { beats: 4, notes: common::notes(&session, 0), cells: common::cells(&session, 0) };
     assert_eq!(
         lists.notes,
         [[60, 5, 25, 100], [60, 27, 29, 90], [61, 12, 14, 70], [61, 20, 30, 60]]
@@ -105,7 +95,9 @@ fn layout() {
         shelf_mut(&mut session, 0)[place] = 1;
         assert_four(&[Clause::Zeros], session);
     }
-    for (word, count) in [(1, 70), (1, u32::MAX), (1, 1 << 30), (2, 50), (2, u32::MAX), (2, 0x2AAA_AAAB)] {
+    for (word, count) in
+        [(1, 70), (1, u32::MAX), (1, 1 << 30), (2, 50), (2, u32::MAX), (2, 0x2AAA_AAAB)]
+    {
         let mut session = session.clone();
         shelf_mut(&mut session, 0)[word] = count;
         assert_four(&[Clause::Counts], session);
@@ -117,7 +109,13 @@ fn note_ranges() {
     for velocity in [0, 128, u32::MAX] {
         assert_breaks(&[Clause::NoteRange], |lists| lists.notes[1][3] = velocity);
     }
-    for note in [[2048, 31, 32, 9], [u32::MAX, 31, 32, 9], [61, 41, 42, 9], [61, 35, 35, 9], [61, 36, 35, 9]] {
+    for note in [
+        [2048, 31, 32, 9],
+        [u32::MAX, 31, 32, 9],
+        [61, 41, 42, 9],
+        [61, 35, 35, 9],
+        [61, 36, 35, 9],
+    ] {
         assert_breaks(&[Clause::NoteRange], |lists| lists.notes.push(note));
     }
     assert_breaks(&[], |lists| lists.notes.push([2047, 31, 32, 9]));
@@ -138,7 +136,9 @@ fn note_order() {
 #[test]
 fn cell_ranges() {
     // The last cell is that of a hidden piece: no note depends on it.
-    for (word, values) in [(0, [2048, u32::MAX]), (1, [4, u32::MAX]), (2, [2, u32::MAX]), (5, [128, u32::MAX])] {
+    for (word, values) in
+        [(0, [2048, u32::MAX]), (1, [4, u32::MAX]), (2, [2, u32::MAX]), (5, [128, u32::MAX])]
+    {
         for value in values {
             assert_breaks(&[Clause::CellRange], |lists| lists.cells[7][word] = value);
         }
@@ -206,8 +206,12 @@ fn overlaps() {
 #[test]
 fn partners() {
     // Cells 5 and 6 are those of the filled beat 2 in lane 61.
-    assert_breaks(&[Clause::OpeningPartner], |lists| { lists.cells.remove(6); });
-    assert_breaks(&[Clause::ClosingPartner], |lists| { lists.cells.remove(5); });
+    assert_breaks(&[Clause::OpeningPartner], |lists| {
+        lists.cells.remove(6);
+    });
+    assert_breaks(&[Clause::ClosingPartner], |lists| {
+        lists.cells.remove(5);
+    });
     let both = [Clause::OpeningPartner, Clause::ClosingPartner];
     assert_breaks(&both, |lists| lists.cells[6][5] = 61);
     assert_breaks(&both, |lists| lists.cells[6][3] = 11);
@@ -241,8 +245,12 @@ fn partners() {
 #[test]
 fn notes_at_lines() {
     let clause = [Clause::NotesAtLines];
-    assert_breaks(&clause, |lists| { lists.notes.remove(0); });
-    assert_breaks(&clause, |lists| { lists.notes.remove(3); });
+    assert_breaks(&clause, |lists| {
+        lists.notes.remove(0);
+    });
+    assert_breaks(&clause, |lists| {
+        lists.notes.remove(3);
+    });
     assert_breaks(&clause, |lists| lists.notes[0][1] = 6);
     assert_breaks(&clause, |lists| lists.notes[0][2] = 24);
     assert_breaks(&clause, |lists| lists.notes[0][3] = 99);
@@ -261,131 +269,4 @@ fn notes_at_lines() {
     });
     // Cells that are no longer bound: the one note becomes two.
     assert_breaks(&clause, |lists| lists.cells[0][4] = 0);
-}
-
-/// A session after some random calls, for damage.
-fn random_session(random: &mut Random) -> Vec<u32> {
-    let Call::Open { delta, epsilon, shelves, .. } = calls::open(random, 2000) else {
-        panic!("not an open");
-    };
-    let mut session = fresh(delta, epsilon, shelves, 150);
-    let sizes = Sizes { most_beats: 3, most_lanes: 2, odd: 1000 };
-    for _ in 0..12 {
-        let call = calls::next(random, &session, &sizes);
-        reference::call::perform(&call, &mut session, &mut []);
-    }
-    session
-}
-
-/// Changes one word a little or altogether.
-fn damage_word(random: &mut Random, words: &mut [u32]) {
-    let used = 3 + 4 * words[1] as u64 + 6 * words[2] as u64;
-    let near = used.min(words.len() as u64) as u32;
-    let place = match random.one_in(20) {
-        true => random.below(words.len() as u32),
-        false => random.below(near),
-    } as usize;
-    words[place] = match random.below(6) {
-        0 => random.next() as u32,
-        1 => random.pick(&[0, 1, 2, 128, 2048, 4096, u32::MAX]),
-        2 => random.pick(words),
-        _ => words[place].wrapping_add(random.pick(&[1, 2, 3, u32::MAX, u32::MAX - 1])),
-    };
-}
-
-#[test]
-fn random_damage() {
-    let (mut sound_ones, mut all) = (0, 0);
-    for seed in 0..6000 {
-        let mut random = Random::new(5_000_000 + seed);
-        let session = random_session(&mut random);
-        for number in 0..session[2] {
-            for _ in 0..12 {
-                let mut words = shelf(&session, number).to_vec();
-                for _ in 0..random.pick(&[1, 1, 1, 2, 4]) {
-                    damage_word(&mut random, &mut words);
-                }
-                let header = header::read(&session).unwrap();
-                let clauses = broken(&words, &measures(&session));
-                let fast = sound::read(&words, &header).is_some();
-                assert_eq!(fast, clauses.is_empty(), "seed {seed}: {clauses:?}, {words:?}");
-                sound_ones += u32::from(fast);
-                all += 1;
-            }
-        }
-    }
-    assert!(all > 300_000 && sound_ones > 40_000, "{sound_ones} of {all} are sound");
-}
-
-#[test]
-fn sessions_of_random_words() {
-    for seed in 0..20_000 {
-        let mut random = Random::new(6_000_000 + seed);
-        let shelf_words = random.between(3, 40);
-        let mut session = vec![random.between(1, 9), 1, 3, shelf_words];
-        session[1] = random.between(1, session[0]);
-        let small = random.pick(&[2, 4, 16]);
-        for _ in 0..3 * shelf_words {
-            let word = match random.one_in(20) {
-                true => random.next() as u32,
-                false => random.below(small),
-            };
-            session.push(word);
-        }
-        let sizes = Sizes { most_beats: 3, most_lanes: 2, odd: 10 };
-        for step in 0..6 {
-            let call = calls::next(&mut random, &session, &sizes);
-            let context = format!("random words, seed {seed}, call {step}");
-            compared(&call, &mut session, &mut [1; 90], &context);
-        }
-    }
-}
-
-/// Fills a shelf with free cells and the notes that the rules give from them.
-fn put_free_take(random: &mut Random, session: &mut [u32], number: u32) {
-    let beats = random.between(0, 4);
-    let m = Measures { delta: session[0], epsilon: session[1], beats };
-    let lanes = notes::lanes(random, 2);
-    let (cells, inner) = cells_and_inner_notes(random, &m, &lanes);
-    let cells: Vec<piece::Cell> = cells
-        .iter()
-        .map(|words| words.map(u64::from))
-        .map(|[lane, beat, side, before, after, velocity]| piece::Cell { lane, beat, side, before, after, velocity })
-        .collect();
-    let inner: Vec<piece::Note> = inner
-        .iter()
-        .map(|words| words.map(u64::from))
-        .map(|[lane, start, end, velocity]| piece::Note { lane, start, end, velocity })
-        .collect();
-    let pieces = piece::of_take(&inner, &cells, m.delta.into());
-    let words = rules::words(beats.into(), &pieces, &measures(session)).expect("it fits");
-    shelf_mut(session, number).copy_from_slice(&words);
-}
-
-#[test]
-fn calls_on_free_sound_shelves() {
-    for seed in 0..20_000 {
-        let mut random = Random::new(7_000_000 + seed);
-        let delta = random.between(1, 9);
-        let epsilon = random.between(1, delta);
-        let mut session = fresh(delta, epsilon, 4, 400);
-        put_free_take(&mut random, &mut session, 0);
-        put_free_take(&mut random, &mut session, 1);
-        for (number, step) in [(0, "first"), (1, "second")] {
-            let clauses = broken(shelf(&session, number), &measures(&session));
-            assert_eq!(clauses, [], "seed {seed}, {step} take");
-        }
-        let beat = random.below(shelf(&session, 0)[0] + 1);
-        for call in [
-            Call::Split { take: 0, beat, left: 2, right: 3 },
-            Call::Join { first: 0, second: 1, result: 2 },
-            Call::Join { first: 1, second: 0, result: 3 },
-            Call::Join { first: 2, second: 2, result: 3 },
-            Call::Split { take: 2, beat, left: 0, right: 1 },
-            Call::Write { shelf: 2 },
-        ] {
-            let number = compared(&call, &mut session, &mut [0; 4000], &format!("seed {seed}"));
-            assert!(number == 0 || number == 8, "seed {seed}: {number}, {call:?}");
-        }
-    }
 }

@@ -14,7 +14,7 @@ pub fn file(random: &mut Random, delta: u32, list: &[u32], end: u32) -> Vec<u8> 
     while random.one_in(4) {
         put_chunk(random, &mut file);
     }
-    let track = Track::new(random, list, end);
+    let track = Track::events(random, list, end);
     file.extend(b"MTrk");
     file.extend((track.len() as u32).to_be_bytes());
     file.extend(track);
@@ -54,7 +54,8 @@ struct Track {
 }
 
 impl Track {
-    fn new(random: &mut Random, list: &[u32], end: u32) -> Vec<u8> {
+    /// The bytes of a whole track.
+    fn events(random: &mut Random, list: &[u32], end: u32) -> Vec<u8> {
         let mut track = Track { bytes: Vec::new(), now: 0, running: None };
         for (tick, starts, lane, velocity) in note_events(random, list, end) {
             if random.one_in(5) {

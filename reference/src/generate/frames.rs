@@ -30,8 +30,10 @@ impl Frames {
     fn frame(&mut self) -> Vec<u8> {
         let call = self.call();
         let line = print(&call);
-        if line.len() <= MOST_DIGITS {
-            self.cutter.perform(&call);
+        if line.len() <= MOST_DIGITS && self.cutter.perform(&call).0 == 0 && self.random.one_in(2) {
+            // The cutter shows a take by its file only.
+            let shelves = written_shelves(&call).into_iter();
+            self.planned.extend(shelves.map(|shelf| Call::Write { shelf }));
         }
         line
     }
@@ -53,6 +55,8 @@ impl Frames {
         self.left -= 1;
         if self.left == 0 && random.one_in(4) {
             self.planned = long_file(random);
+        } else if random.one_in(40) {
+            self.planned = apart_and_together(random, self.cutter.session());
         }
         match random.below(60) {
             0 => odd_open(random),
@@ -77,14 +81,9 @@ impl Iterator for Frames {
 fn odd_open(random: &mut Random) -> Call {
     let mut words = [10, 3, 4, 200];
     let at = random.below(4) as usize;
-    let limits = [
-        [0, 32_767, 32_768],
-        [0, 10, 11],
-        [0, 40, 65],
-        [2, 2048, 1_048_577],
-    ];
+    let limits = [[0, 32_767, 32_768], [0, 10, 11], [0, 40, 65], [2, 2048, 1_048_577]];
     words[at] = match random.below(4) {
-        0 => random.next() as u32,
+        0 => random.next_number() as u32,
         _ => random.pick(&limits[at]),
     };
     let [delta, epsilon, shelves, shelf_words] = words;
@@ -100,6 +99,48 @@ fn crowded(random: &mut Random, session: &[u32]) -> Call {
     let mut list = notes::list(random, &measures, &lanes);
     list.truncate(4 * 123);
     Call::Lay { shelf: random.below(session[2]), beats: 3, notes: list }
+}
+
+/// The shelves that an accepted call gives a new take.
+fn written_shelves(call: &Call) -> Vec<u32> {
+    match *call {
+        Call::Lay { shelf, .. } | Call::Load { shelf, .. } => vec![shelf],
+        Call::Split { left, right, .. } => vec![left, right],
+        Call::Join { result, .. } => vec![result],
+        Call::Open { .. } | Call::Write { .. } => vec![],
+    }
+}
+
+/// Calls, the last one first, that cut a take of three beats into its beats
+/// and join them in some order; in the original order it is healed. They
+/// need six shelves, and are refused where there are fewer.
+fn apart_and_together(random: &mut Random, session: &[u32]) -> Vec<Call> {
+    let measures = notes::Measures { delta: session[0], epsilon: session[1], beats: 3 };
+    let lanes = notes::lanes(random, 4);
+    let list = notes::list(random, &measures, &lanes);
+    let mut order = [1, 3, 4];
+    for place in [2, 1] {
+        order.swap(place, random.below(place as u32 + 1) as usize);
+    }
+    let [first, second, third] = if random.one_in(2) { [1, 3, 4] } else { order };
+    let mut calls = vec![
+        Call::Lay { shelf: 0, beats: 3, notes: list },
+        Call::Split { take: 0, beat: 1, left: 1, right: 2 },
+        Call::Split { take: 2, beat: 1, left: 3, right: 4 },
+    ];
+    calls.extend(match random.one_in(2) {
+        true => [
+            Call::Join { first, second, result: 5 },
+            Call::Join { first: 5, second: third, result: 2 },
+        ],
+        false => [
+            Call::Join { first: second, second: third, result: 5 },
+            Call::Join { first, second: 5, result: 2 },
+        ],
+    });
+    calls.extend([0, 1, 3, 4, 5, 2].map(|shelf| Call::Write { shelf }));
+    calls.reverse();
+    calls
 }
 
 /// Calls, the last one first, whose take doubles until its file is about as

@@ -33,6 +33,8 @@ fn far_side(random: &mut Random, measures: &Measures) -> u32 {
     }
 }
 
+/// One beat of a lane: a piece that fills it, or up to two pieces at its
+/// lines and a note between them.
 fn put_beat(
     random: &mut Random,
     measures: &Measures,
@@ -43,30 +45,42 @@ fn put_beat(
 ) {
     let delta = measures.delta;
     let velocity = random.between(1, 127);
-    if random.one_in(3) {
+    // Of one tick, a beat can only be filled.
+    if random.one_in(3) || delta == 1 {
         let (before, behind) = (far_side(random, measures), far_side(random, measures));
         cells.push([lane, beat, 0, before, behind + delta, velocity]);
         cells.push([lane, beat, 1, before + delta, behind, velocity]);
         return;
     }
     let (mut from, mut to) = (0, delta);
-    if delta > 1 && random.one_in(2) {
+    if random.one_in(2) {
         from = near_side(random, measures, delta - 1);
         cells.push([lane, beat, 0, far_side(random, measures), from, velocity]);
     }
-    if from < delta && delta > 1 && random.one_in(2) {
+    if random.one_in(2) {
         let before = near_side(random, measures, (delta - from).min(delta - 1));
         to = delta - before;
-        let velocity = random.between(1, 127);
-        cells.push([lane, beat, 1, before, far_side(random, measures), velocity]);
+        cells.push([lane, beat, 1, before, far_side(random, measures), velocity % 127 + 1]);
     }
-    // A note between the pieces, off the lines; it may touch the pieces.
-    let (first, last) = (from.max(1), to.min(delta - 1));
-    if first < last && random.one_in(2) {
-        let start = random.between(first, last - 1);
-        let end = random.between(start + 1, last);
-        notes.push([lane, beat * delta + start, beat * delta + end, velocity]);
+    notes.extend(
+        note_between(random, measures, from, to)
+            .map(|(start, end)| [lane, beat * delta + start, beat * delta + end, velocity]),
+    );
+}
+
+/// At times a note between two ticks of a beat, off the lines.
+fn note_between(
+    random: &mut Random,
+    measures: &Measures,
+    from: u32,
+    to: u32,
+) -> Option<(u32, u32)> {
+    let (first, last) = (from.max(1), to.min(measures.delta - 1));
+    if first >= last || random.one_in(2) {
+        return None;
     }
+    let start = random.between(first, last - 1);
+    Some((start, random.between(start + 1, last)))
 }
 
 /// A piece's length, often shorter than ε, from 1 to `most`.

@@ -51,46 +51,68 @@ fn decide(call: &Call, session: &[u32], room: usize) -> Result<Change, u32> {
     if session.len() < 4 || !header_right(&session[..4], session.len()) {
         return Err(1);
     }
-    let measures = Measures {
-        delta: session[0].into(),
-        epsilon: session[1].into(),
-        shelf_words: session[3].into(),
-    };
-    let words_of = |shelf: u32| {
-        let from = 4 + shelf as usize * session[3] as usize;
-        &session[from..from + session[3] as usize]
-    };
-    let numbers = shelf_numbers(call);
-    if numbers.iter().any(|&number| number >= session[2]) {
+    if shelf_numbers(call).iter().any(|&number| number >= session[2]) {
         return Err(2);
     }
+    if !written_differ(call) {
+        return Err(3);
+    }
+    decide_on_shelves(call, &Shelves::new(session), room)
+}
+
+/// The shelves of a session that has passed question 1.
+struct Shelves<'a> {
+    words: &'a [u32],
+    measures: Measures,
+}
+
+impl<'a> Shelves<'a> {
+    fn new(session: &'a [u32]) -> Self {
+        let [delta, epsilon, shelf_words] = [0, 1, 3].map(|i: usize| u64::from(session[i]));
+        Shelves { words: &session[4..], measures: Measures { delta, epsilon, shelf_words } }
+    }
+
+    /// Question 4 for one shelf.
+    fn sound(&self, number: u32) -> Result<Take, u32> {
+        let length = self.measures.shelf_words as usize;
+        let from = number as usize * length;
+        sound_take(&self.words[from..from + length], &self.measures).ok_or(4)
+    }
+}
+
+fn decide_on_shelves(call: &Call, shelves: &Shelves, room: usize) -> Result<Change, u32> {
+    let measures = &shelves.measures;
     match *call {
         Call::Open { .. } => Err(1),
-        Call::Lay { shelf, beats, ref notes } => lay(shelf, beats, notes, &measures),
+        Call::Lay { shelf, beats, ref notes } => lay(shelf, beats, notes, measures),
         Call::Load { shelf, ref file } => {
             let (beats, notes) = file::read(file, measures.delta)?;
-            record(shelf, beats, &notes, &measures)
+            record(shelf, beats, &notes, measures)
         }
         Call::Split { take, beat, left, right } => {
-            if take == left || take == right || left == right {
-                return Err(3);
-            }
-            let take = sound_take(words_of(take), &measures).ok_or(4u32)?;
-            split(&take, beat.into(), [left, right], &measures)
+            split(&shelves.sound(take)?, beat.into(), [left, right], measures)
         }
         Call::Join { first, second, result } => {
-            if result == first || result == second {
-                return Err(3);
-            }
-            let first = sound_take(words_of(first), &measures).ok_or(4u32)?;
-            let second = sound_take(words_of(second), &measures).ok_or(4u32)?;
-            join(&first, &second, result, &measures)
+            join(&shelves.sound(first)?, &shelves.sound(second)?, result, measures)
         }
         Call::Write { shelf } => {
-            let take = sound_take(words_of(shelf), &measures).ok_or(4u32)?;
+            let take = shelves.sound(shelf)?;
             let bytes = file::written(take.beats, &take.notes, measures.delta);
-            if bytes.len() > room { Err(15) } else { Ok(Change::File(bytes)) }
+            if bytes.len() > room {
+                Err(15)
+            } else {
+                Ok(Change::File(bytes))
+            }
         }
+    }
+}
+
+/// Question 3: each written shelf differs from the other named ones.
+fn written_differ(call: &Call) -> bool {
+    match *call {
+        Call::Split { take, left, right, .. } => take != left && take != right && left != right,
+        Call::Join { first, second, result } => result != first && result != second,
+        _ => true,
     }
 }
 
@@ -125,7 +147,7 @@ fn lay(shelf: u32, beats: u32, list: &[u32], measures: &Measures) -> Result<Chan
     if beats > 4096 {
         return Err(6);
     }
-    if list.len() % 4 != 0 {
+    if !list.len().is_multiple_of(4) {
         return Err(7);
     }
     let notes = notes_of_list(list);

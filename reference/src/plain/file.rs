@@ -78,7 +78,11 @@ impl Reading {
 
     fn byte_below_80(&mut self) -> Result<u64, u32> {
         let byte = self.byte()?;
-        if byte < 0x80 { Ok(byte.into()) } else { Err(12) }
+        if byte < 0x80 {
+            Ok(byte.into())
+        } else {
+            Err(12)
+        }
     }
 
     fn groups(&mut self) -> Result<u64, u32> {
@@ -151,7 +155,11 @@ impl Reading {
             self.byte()?;
         }
         let at_last_byte = self.position == self.track.len();
-        if ends && !(length == 0 && at_last_byte) { Err(12) } else { Ok(()) }
+        if ends && !(length == 0 && at_last_byte) {
+            Err(12)
+        } else {
+            Ok(())
+        }
     }
 
     fn play(&mut self, status: u8, (key, velocity): (u64, u64)) -> Result<(), u32> {

@@ -109,7 +109,8 @@ fn of_note_in_beat(note: &Note, beat: u64, delta: u64) -> Option<Piece> {
 /// The pieces of a take: those that its cells give and, without cells, the
 /// notes that touch no line.
 pub fn of_take(notes: &[Note], cells: &[Cell], delta: u64) -> Vec<Piece> {
-    let mut pieces: Vec<Piece> = cells.iter().filter_map(|cell| of_cell(cell, cells, delta)).collect();
+    let mut pieces: Vec<Piece> =
+        cells.iter().filter_map(|cell| of_cell(cell, cells, delta)).collect();
     for note in notes.iter().filter(|note| note.touches_no_line(delta)) {
         pieces.push(Piece {
             lane: note.lane,

@@ -71,7 +71,11 @@ pub fn read(shelf: &[u32]) -> Option<Take> {
 
 /// A sound shelf's take.
 pub fn sound_take(shelf: &[u32], measures: &Measures) -> Option<Take> {
-    if broken(shelf, measures).is_empty() { read(shelf) } else { None }
+    if broken(shelf, measures).is_empty() {
+        read(shelf)
+    } else {
+        None
+    }
 }
 
 /// The clauses that a shelf breaks. Where cells are out of range, what they
