@@ -2,7 +2,7 @@
 //! engine with. Written from the paper alone.
 //!
 //! The six calls, fast and plain, on lent words and bytes:
-//! [`open`], [`lay`], [`split`], [`join`], [`load`], [`write`].
+//! [`open()`], [`lay()`], [`split()`], [`join()`], [`load()`], [`write()`].
 //!
 //! - [`header`]: the header words, where shelves lie, `open`
 //! - [`question`]: the numbers of the questions

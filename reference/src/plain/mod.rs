@@ -5,7 +5,7 @@
 //! - [`rules`]: stands alone, bound, hidden, runs; a shelf's words
 //! - [`machine`]: the plain machine with its recordings and histories
 //! - [`sound`]: soundness, clause by clause
-//! - [`file`]: reading and writing a file
+//! - [`mod@file`]: reading and writing a file
 //! - [`calls`]: every call on words, with its questions in order
 
 pub mod calls;
