@@ -23,7 +23,7 @@ use Rattle.session.specs.Entering.{entryOf, entryAsked}
 use Rattle.session.specs.Listing.{cellsListed}
 use Rattle.session.specs.declared.header.Entry.the-variants as entries
 use Rattle.session.proofs.Entries.{Entered}
-use Rattle.session.proofs.Readings.{length-notes-read}
+use Rattle.laws.specs.Reading.{length-read}
 use Rattle.beat.specs.Laying.{layOf, listFits, layAsked, laidWords, LayAsks}
 use Rattle.beat.specs.declared.laying.LayAnswer.the-variants.{Cells, Refused}
 use Rattle.beat.proofs.Asks.{Listed, list-passed, Laid}
@@ -49,7 +49,7 @@ module _ (h : Header) (beats : ℕ) (ws : List ℕ) (pos : 0 < h .delta) (e : li
 
   many : length ((listed beats ws) .notes) ≡ length ws / 4
   unfolding listed
-  many = length-notes-read (length ws / 4) ws
+  many = length-read (length ws / 4) ws
 
   pub words-are : wordsOf h (recordingTake (h .delta) (listed beats ws)) ≡ laidWords h beats ws
   unfolding wordsOf laidWords recordingTake listed

@@ -21,7 +21,8 @@ use Rattle.model.proofs.Headers.{InRange, in-range}
 use Rattle.session.specs.Framing.{framed}
 use Rattle.session.specs.Listing.{cellsListed}
 use Rattle.session.proofs.Frames.{shelf-framed}
-use Rattle.session.proofs.Readings.{notes-words, notes-written, length-notes-read}
+use Rattle.laws.specs.Reading.{length-read}
+use Rattle.session.proofs.Readings.{notes-words, notes-written}
 use Rattle.beat.specs.Making.{Made, CellsAsks, cellsAt}
 use Rattle.beat.specs.Laying.{LayAsks, laidWords}
 use Rattle.beat.proofs.Asks.{Listed, list-passed}
@@ -93,7 +94,7 @@ module _ {s : List ℕ} {h : Header} {shelf beats : ℕ} {ws : List ℕ} {count 
       pub list-laid : {s₃ : List ℕ} → s₃ ≡ framed s₂ at (h .words) beats k count → s₃ ≡ splice s (shelfAt h shelf) (laidWords h beats ws)
       unfolding laidWords listed
       list-laid e =
-          let many : length ns ≡ k = length-notes-read k ws in
+          let many : length ns ≡ k = length-read k ws in
           let parts : framed s₂ at (h .words) beats k count
           ≡ framed (splice (splice s (at + 3) (gather noteWords ns)) (at + 3 + 4 * length ns) (gather cellWords cs)) at (h .words) beats (length ns) (length cs) =
           rw (made .words, made-are, notes-in, cells-are, many, notes-words k ws (sized .whole)) in

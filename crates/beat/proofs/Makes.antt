@@ -25,7 +25,8 @@ use Rattle.session.specs.Reading.{noteAt}
 use Rattle.session.proofs.Frames.{length-cells}
 use Rattle.session.proofs.Counts.{Beats, note-beats}
 use Rattle.session.proofs.Readings.{notes-cons, note-same}
-use Rattle.session.proofs.Checks.{ranged, count-asks}
+use Rattle.laws.specs.Notes.{fair}
+use Rattle.session.proofs.Checks.{count-asks}
 use Rattle.beat.specs.Making.{Made, BeatAsks, NoteAsks, CellsAsks, cellsAt}
 
 -- ---- one beat
@@ -214,7 +215,7 @@ module _ {s₀ s : List ℕ} {at count δ end from to : ℕ} (a : CellsAsks s₀
           let first = and-left (noteOk δ (l .beats) n && firstFollows n (notesFrom s₀ end (from + 4))) (notesOk δ (l .beats) (notesFrom s₀ end (from + 4))) tests in
           let right = and-left (noteOk δ (l .beats) n) (firstFollows n (notesFrom s₀ end (from + 4))) first in
           record {
-            note = count-asks δ (l .beats) n (l .range) (ranged δ (l .beats) n right);
+            note = count-asks δ (l .beats) n (l .range) (fair δ (l .beats) n right);
             room =
                 omega (
                   arith,

@@ -1,9 +1,10 @@
 // Open: a fresh session.
 ghost use mathlib.Core.Path.{_≡_};
 ghost use lib.ListN.{length};
-ghost use Rattle.model.specs.Session.{sessionLength, freshWords};
+ghost use mathlib.Core.Bool.{true};
+ghost use Rattle.model.specs.Session.{freshWords};
 ghost use Rattle.model.specs.Machine.{openCall};
-ghost use Rattle.model.specs.Questions.{number, after};
+ghost use Rattle.model.specs.Questions.{headerOk, number, after};
 use model::Header;
 use model::HeaderAnswer;
 
@@ -31,7 +32,7 @@ pub extern "C" fn take_open(
 
 // The header, and every shelf empty: zeros to the end.
 fn put_fresh(s: &mut [u32], h: Header)
-    requires { ⌜ length (now s) ≡ sessionLength h ⌝ }
+    requires { ⌜ headerOk h (length (now s)) ≡ true ⌝ }
     ensures { λ _. ⌜ now (s .exit) ≡ freshWords h ⌝ }
 {
     words::put_four(s, 0, h.delta, h.epsilon, h.shelves, h.words);

@@ -1,24 +1,24 @@
 -- The check of a note list: what holds before each note. Assumes nothing.
 use mathlib.Core.Path.{_≡_, refl, sym, ap, _∙_}
-use mathlib.Core.Logic.{_⊎_, inl, inr, ⊎-elim}
-use mathlib.Core.Bool.{Bool, true, false, _&&_, _||_, and-assoc, and-false}
+use mathlib.Core.Logic.{⊎-elim}
+use mathlib.Core.Bool.{Bool, true, false, _&&_, _||_, and-false}
 use mathlib.Core.List.{List, [], _∷_, _++_}
 use Prim.Native.Nat.{ℕ, zero, suc, _+_, _*_, _-_, _/_, _%_, _≤_, _<_}
 use native.Mathlib.Nat.{mul-le-mul, mul-le-mul-left, mul-le-mul-right, add-mul, suc-mul, div-add-mod', eq-or-lt-of-le, sub-zero}
 use native.Mathlib.Omega.{arith}
-use borrow.Author.Tests.{ltb-true, leb-true, eqb-true, le-leb, lt-ltb, eq-eqb, ne-eqb}
+use borrow.Author.Tests.{le-leb, lt-ltb, eq-eqb, ne-eqb}
 use lib.Dec.{leb, ltb, eqb}
 use lib.ListN.{length, drop, length-append}
 use Rattle.model.specs.Lists.{gather}
-use Rattle.model.specs.Limits.{maxBeats, maxDelta, laneCount, velocityOk}
+use Rattle.model.specs.Limits.{maxBeats, maxDelta, laneCount}
 use Rattle.model.specs.Pieces.{firstBeat, lastBeat, cellsOfNote}
 use Rattle.model.specs.Takes.{readNotes}
 use Rattle.model.specs.Soundness.{noteOk, follows, firstFollows, notesOk}
 use Rattle.model.specs.Machine.{listed}
 use Rattle.model.specs.Questions.{listOk}
-use Rattle.model.proofs.Headers.{and-both}
 use Rattle.model.specs.declared.Header.{Header}
 use Rattle.model.specs.declared.Note.{Note}
+use Rattle.laws.specs.Notes.{Fair, fair, Follow, Follow.above, Follow.later, follow}
 use Rattle.session.specs.Counting.{oneIf}
 use Rattle.session.specs.Reading.{noteAt}
 use Rattle.session.specs.Listing.{listOf, listAsked, cellsListed}
@@ -28,40 +28,10 @@ use Rattle.session.proofs.Readings.{notes-cons}
 
 -- ---- one note
 
--- a note in range, as facts
-pub record Ranged (δ beats : ℕ) (n : Note) : Type 0 where
-  pub lane : n .lane < laneCount
-  pub some : n .start < n .end
-  pub top : n .end ≤ beats * δ
-
-pub ranged : (δ beats : ℕ) (n : Note) → noteOk δ beats n ≡ true → Ranged δ beats n
-unfolding noteOk
-ranged δ beats n e =
-    let p₂ = ltb (n .lane) laneCount && ltb (n .start) (n .end) in
-    let e₄ = and-both (p₂ && leb (n .end) (beats * δ)) (velocityOk (n .lane) (n .velocity)) e in
-    let e₃ = and-both p₂ (leb (n .end) (beats * δ)) (e₄ .0) in
-    let e₂ = and-both (ltb (n .lane) laneCount) (ltb (n .start) (n .end)) (e₃ .0) in
-    record { lane = ltb-true _ _ (e₂ .0); some = ltb-true _ _ (e₂ .1); top = leb-true _ _ (e₃ .1) }
-
 -- what counting its cells asks
-pub count-asks : (δ beats : ℕ) (n : Note) → (0 < δ) × (δ ≤ maxDelta) × (beats ≤ maxBeats) → Ranged δ beats n
+pub count-asks : (δ beats : ℕ) (n : Note) → (0 < δ) × (δ ≤ maxDelta) × (beats ≤ maxBeats) → Fair δ beats n
     → (0 < δ) × (δ ≤ maxDelta) × (n .start < n .end) × (n .end ≤ maxBeats * δ)
-count-asks δ beats n h r = (h .0, h .1, r .some, omega (arith, r .top, mul-le-mul-right δ (h .2)))
-
-either : (a b : Bool) → (a || b) ≡ true → (a ≡ true) ⊎ (b ≡ true)
-either true b e = inl refl
-either false b e = inr e
-
--- a note that follows stands in a later lane, or in the same lane behind the other's end
-pub follows-cases : (m n : Note) → follows m n ≡ true → (m .lane < n .lane) ⊎ ((m .lane ≡ n .lane) × (m .end ≤ n .start))
-unfolding follows
-follows-cases m n e =
-    ⊎-elim
-    (λ a. inl (ltb-true _ _ a))
-    (λ b.
-    let both = and-both (eqb (m .lane) (n .lane)) (leb (m .end) (n .start)) b in
-    inr (eqb-true _ _ (both .0), leb-true _ _ (both .1)))
-    (either (ltb (m .lane) (n .lane)) (eqb (m .lane) (n .lane) && leb (m .end) (n .start)) e)
+count-asks δ beats n h r = (h .0, h .1, r .order, omega (arith, r .fits, mul-le-mul-right δ (h .2)))
 
 one-le : (b : Bool) → oneIf b ≤ 1
 one-le true = omega arith
@@ -156,23 +126,22 @@ module _ (δ beats : ℕ) (ws : List ℕ) where
           → {k : ℕ} → k ≡ length (cellsOfNote δ n) → Checked n (cells + k) (at + 4)
       unfolding notesOk firstFollows
       checked-note h right next {k} e =
-          let r = ranged δ beats n right in
+          let r = fair δ beats n right in
           record {
             whole = omega (arith, c .whole);
             ok = c .ok ∙ rw (cons, right, next);
             count = omega (arith, rw cons at (c .count), length-append (cellsOfNote δ n) (gather (cellsOfNote δ) (rest (at + 4))));
-            lane = r .lane;
-            top = r .top;
-            few = further h r (follows-cases m n next) e;
+            lane = r .lane-below;
+            top = r .fits;
+            few = further h r (follow m n next) e;
           }
         where
-          further : (0 < δ) × (δ ≤ maxDelta) × (beats ≤ maxBeats) → Ranged δ beats n
-              → (m .lane < n .lane) ⊎ ((m .lane ≡ n .lane) × (m .end ≤ n .start)) → {k : ℕ} → k ≡ length (cellsOfNote δ n)
+          further : (0 < δ) × (δ ≤ maxDelta) × (beats ≤ maxBeats) → Fair δ beats n → Follow m n → {k : ℕ} → k ≡ length (cellsOfNote δ n)
               → cells + k ≤ 2 * (n .lane * (beats * δ) + n .end)
-          further h r (inl later) e =
-              omega (arith, few-cells δ n (count-asks δ beats n h r), c .few, c .top, suc-mul (m .lane) (beats * δ), mul-le-mul-right (beats * δ) later)
-          further h r (inr same) e =
-              omega (arith, few-cells δ n (count-asks δ beats n h r), c .few, ap (λ (l : ℕ). l * (beats * δ)) (same .0))
+          further h r (above up) e =
+              omega (arith, few-cells δ n (count-asks δ beats n h r), c .few, c .top, suc-mul (m .lane) (beats * δ), mul-le-mul-right (beats * δ) up)
+          further h r (later same behind) e =
+              omega (arith, few-cells δ n (count-asks δ beats n h r), c .few, ap (λ (l : ℕ). l * (beats * δ)) same)
 
     -- the count stays small
     pub count-small : (0 < δ) × (δ ≤ maxDelta) × (beats ≤ maxBeats) → cells ≤ 549739036672

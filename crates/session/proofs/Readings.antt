@@ -1,16 +1,17 @@
 -- Notes read from words. Assumes nothing.
-use mathlib.Core.Path.{_≡_, refl, sym, ap, _∙_}
+use mathlib.Core.Path.{_≡_, refl, ap}
 use mathlib.Core.List.{List, [], _∷_, _++_}
-use Prim.Native.Nat.{ℕ, zero, suc, _+_, _*_, _≤_, _<_}
-use native.Mathlib.Nat.{add-zero, add-assoc}
+use Prim.Native.Nat.{ℕ, zero, suc, _+_, _*_, _≤_}
+use native.Mathlib.Nat.{add-zero}
 use native.Mathlib.Omega.{arith}
-use lib.ListN.{length, getD, take, drop, length-drop}
-use lib.Seq.{getD-drop, drop-drop, drop-cons}
+use lib.ListN.{length, take, drop}
+use lib.Seq.{getD-drop, drop-drop, drop-at, length-take-le}
 use Rattle.words.specs.Parts.{Same}
-use Rattle.words.specs.Splice.{splice, getD-splice-inside}
+use Rattle.words.specs.Splice.{splice, splice-parts}
 use Rattle.model.specs.Lists.{gather}
 use Rattle.model.specs.Takes.{noteWords, readNotes}
 use Rattle.model.specs.declared.Note.{Note}
+use Rattle.laws.specs.Reading.{read-notes, length-read}
 use Rattle.session.specs.Reading.{noteAt}
 
 -- the first note, and the rest
@@ -40,26 +41,11 @@ notes-words (suc k) (a ∷ []) e = absurd (omega arith)
 notes-words (suc k) (a ∷ b ∷ []) e = absurd (omega arith)
 notes-words (suc k) (a ∷ b ∷ c ∷ []) e = absurd (omega arith)
 
-pub length-notes-read : (k : ℕ) (ws : List ℕ) → length (readNotes k ws) ≡ k
-unfolding readNotes
-length-notes-read zero ws = refl
-length-notes-read (suc k) ws = ap suc (length-notes-read k (drop 4 ws))
-
--- the same words at two places are the same notes
-pub notes-moved : (k : ℕ) (l m : List ℕ) (a b : ℕ) → ((i : ℕ) → i < 4 * k → getD l (a + i) 0 ≡ getD m (b + i) 0)
-    → readNotes k (drop a l) ≡ readNotes k (drop b m)
-unfolding readNotes noteAt
-notes-moved zero l m a b same = refl
-notes-moved (suc k) l m a b same =
-    let w₀ : getD l a 0 ≡ getD m b 0 = rw (add-zero a, add-zero b) at (same 0 (omega arith)) in
-    let more : (i : ℕ) → i < 4 * k → getD l (a + 4 + i) 0 ≡ getD m (b + 4 + i) 0 =
-    λ i h. rw (← add-assoc a 4 i, ← add-assoc b 4 i) at (same (4 + i) (omega arith)) in
-    notes-cons k l a
-    ∙ rw (w₀, same 1 (omega arith), same 2 (omega arith), same 3 (omega arith), notes-moved k l m (a + 4) (b + 4) more) (sym (notes-cons k m b))
-
 -- notes written into a list are read there
 pub notes-written : (k : ℕ) (s : List ℕ) (at : ℕ) (ws : List ℕ) → length ws ≡ 4 * k → at + length ws ≤ length s
     → readNotes k (drop at (splice s at ws)) ≡ readNotes k ws
 notes-written k s at ws long fits =
-    notes-moved k (splice s at ws) ws at 0
-    (λ i h. getD-splice-inside s at ws i (omega arith) fits ∙ ap (λ (j : ℕ). getD ws j 0) (omega arith))
+    let rest = drop (at + length ws) s in
+    let read = read-notes (readNotes k ws) rest in
+    rw (splice-parts s at ws fits, drop-at (take at s) (ws ++ rest) at (length-take-le at s (omega arith)))
+    (rw (length-read k ws, notes-words k ws long) at read)

@@ -1,14 +1,16 @@
 -- `beat::opening::put_fresh` meets its contract. Assumes nothing.
-use Rattle.beat.proofs.Opens.{fresh-done}
+use native.Mathlib.Omega.{arith}
+use Rattle.beat.proofs.Opens.{long-enough, fresh-done}
+use lib.ListN.{length}
 use borrow.Author.Needs.{needs}
 use Rattle.beat.proofs.opening.put_fresh.Statement.{statement}
 use Rattle.beat.proofs.opening.put_fresh.Tie as tie
 
 put-four-requires : tie.Need-put-four-requires
-put-four-requires c κs = search needs
+put-four-requires c κs = omega (arith, long-enough (c .before .before .args .h) (length (c .before .before .args .s .now)) (c .before .before .pre))
 
 zero-fill-requires : tie.Need-zero-fill-requires
-zero-fill-requires c κs = search needs
+zero-fill-requires c κs = omega (arith, long-enough (c .before .before .before .before .before .before .args .h) (length (c .before .before .before .before .before .before .args .s .now)) (c .before .before .before .before .before .before .pre))
 
 same-length : tie.Need-same-length
 same-length c = search needs

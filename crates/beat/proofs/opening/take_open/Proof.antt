@@ -1,7 +1,7 @@
 -- `beat::opening::take_open` meets its contract. Assumes nothing.
-use Rattle.model.specs.Session.{sessionLength, freshWords}
+use Rattle.model.specs.Session.{freshWords}
 use Rattle.beat.proofs.Opens.{open-refused, open-done}
-use Rattle.model.proofs.Headers.{in-range, valid-means, refused-means}
+use Rattle.model.proofs.Headers.{valid-means, refused-means}
 use Rattle.model.specs.Answers.{answerOf}
 use mathlib.Core.Path.{sym, ap, _∙_}
 use borrow.Author.Needs.{needs}
@@ -17,7 +17,7 @@ enum-known-answer c = search needs
 put-fresh-requires : tie.Need-put-fresh-requires
 put-fresh-requires c κs =
     let v = valid-means _ _ _ (sym (ap answerOf (c .before .before .answer .given .1)) ∙ c .before .before .before .before .new .ensures .0) in
-    in-range (v .0) .exact ∙ ap sessionLength (sym (v .1))
+    rw (v .1) (v .0)
 
 enum-told : tie.Need-enum-told
 enum-told c = search needs

@@ -1,5 +1,6 @@
 -- `session::list::check_list` meets its contract. The measure is how many words are left. Assumes nothing.
-use Rattle.session.proofs.Checks.{Checked, checked-start, checked-done, room-for-note, not-ranged, not-follows, checked-note, count-small, count-asks, ranged, not-whole, not-ok, counted}
+use Rattle.laws.specs.Notes.{fair}
+use Rattle.session.proofs.Checks.{Checked, checked-start, checked-done, room-for-note, not-ranged, not-follows, checked-note, count-small, count-asks, not-whole, not-ok, counted}
 use lib.ListN.{length}
 use borrow.Author.Tests.{not-true, not-false}
 use mathlib.Core.Path.{sym, _∙_}
@@ -37,7 +38,7 @@ returns-3 : tie.Need-returns-3 Inv-loop μ-loop
 returns-3 c = not-ok _ _ _ (not-follows _ _ _ (c .before .before .before .before .before .before .loop .inv) (c .before .before .before .before .before .loop-test .taken) (c .before .before .before .before .note-at .ensures) (sym (c .before .note-follows .ensures) ∙ not-true _ (c .if3 .taken)))
 
 cell-count-requires : tie.Need-cell-count-requires Inv-loop μ-loop
-cell-count-requires c κs = count-asks _ _ _ (c .before .before .before .before .before .before .before .before .before .pre) (ranged _ _ _ (sym (c .before .before .before .note-ok .ensures) ∙ not-false _ (c .before .before .if2 .left)))
+cell-count-requires c κs = count-asks _ _ _ (c .before .before .before .before .before .before .before .before .before .pre) (fair _ _ _ (sym (c .before .before .before .note-ok .ensures) ∙ not-false _ (c .before .before .if2 .left)))
 
 cast-cells : tie.Need-cast-cells Inv-loop μ-loop
 cast-cells c = search needs
