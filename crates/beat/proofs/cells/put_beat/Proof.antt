@@ -15,7 +15,7 @@ add-put-cell : tie.Need-add-put-cell
 add-put-cell c = search needs
 
 put-cell-requires-2 : tie.Need-put-cell-requires-2
-put-cell-requires-2 c κs = omega (arith, room-both (c .before .before .before .before .before .before .before .before .before .before .pre) (c .before .before .before .before .before .before .before .if1 .taken) (c .before .if2 .taken), c .before .before .before .before .before .before .before .before .before .before .pre)
+put-cell-requires-2 c κs = omega (arith, room-both (c .before .before .before .before .before .before .before .before .before .before .pre) (c .before .before .before .before .before .before .before .if1 .taken) (omega arith), c .before .before .before .before .before .before .before .before .before .before .pre)
 
 add-result : tie.Need-add-result
 add-result c = search needs
@@ -24,7 +24,9 @@ same-length : tie.Need-same-length
 same-length c = search needs
 
 returns : tie.Need-returns
-returns c = made-both (c .before .before .before .before .before .before .before .before .before .before .before .before .before .pre) (c .before .before .before .before .before .before .before .before .before .before .if1 .taken) (c .before .before .before .before .if2 .taken) (c .before .before .before .before .before .before .before .before .put-cell .ensures) (c .before .before .put-cell2 .ensures)
+returns c =
+    made-both (c .before .before .before .before .before .before .before .before .before .before .before .before .before .pre) (c .before .before .before .before .before .before .before .before .before .before .if1 .taken) (omega arith) (c .before .before .before .before .before .before .before .before .put-cell .ensures)
+    (c .before .before .put-cell2 .ensures)
 
 add-result-2 : tie.Need-add-result-2
 add-result-2 c = search needs
@@ -33,7 +35,7 @@ same-length-2 : tie.Need-same-length-2
 same-length-2 c = search needs
 
 returns-2 : tie.Need-returns-2
-returns-2 c = made-opening (c .before .before .before .before .before .before .before .before .before .pre) (c .before .before .before .before .before .before .if1 .taken) (c .if2 .left) (c .before .before .before .before .put-cell .ensures)
+returns-2 c = made-opening (c .before .before .before .before .before .before .before .before .before .pre) (c .before .before .before .before .before .before .if1 .taken) (omega arith) (c .before .before .before .before .put-cell .ensures)
 
 put-cell-requires-3 : tie.Need-put-cell-requires-3
 put-cell-requires-3 c κs = (room-closing (c .before .before .before .before .before .before .pre) (c .before .before .before .if1 .left) (c .before .if3 .taken), search needs, search needs)

@@ -1,4 +1,5 @@
 -- `session::header::read` meets its contract. Assumes nothing.
+use native.Mathlib.Omega.{arith}
 use Rattle.session.proofs.Entries.{short}
 use Rattle.model.specs.Session.{headerOf}
 use mathlib.Core.Path.{refl}
@@ -7,7 +8,7 @@ use Rattle.session.proofs.header.read.Statement.{statement}
 use Rattle.session.proofs.header.read.Tie as tie
 
 returns : tie.Need-returns
-returns c = short _ (c .if1 .taken)
+returns c = short (c .before .before .args .s .now) (omega arith)
 
 shared-slice-read-new : tie.Need-shared-slice-read-new
 shared-slice-read-new c = search needs
