@@ -1,7 +1,7 @@
 -- Making the cells of notes: of one beat, of one note, of all notes that stand in a shelf. Assumes nothing.
 use mathlib.Core.Path.{_≡_, refl, sym, ap, _∙_}
-use mathlib.Core.Bool.{Bool, true, false, _&&_}
-use mathlib.Core.List.{List, [], _∷_, _++_}
+use mathlib.Core.Bool.{Bool, true, false, _&&_, and-true, and-false}
+use mathlib.Core.List.{List, [], _∷_, _++_, append-assoc, append-nil}
 use Prim.Native.Nat.{ℕ, zero, suc, _+_, _*_, _-_, _/_, _≤_, _<_}
 use native.Mathlib.Nat.{mul-le-mul-right, le-div-iff-mul-le, div-lt-iff-lt-mul, suc-mul}
 use native.Mathlib.Numerals.{add-one}
@@ -27,130 +27,188 @@ use Rattle.session.proofs.Counts.{Beats, note-beats}
 use Rattle.session.proofs.Readings.{notes-cons, note-same}
 use Rattle.laws.specs.Notes.{fair}
 use Rattle.session.proofs.Checks.{count-asks}
-use Rattle.beat.specs.Making.{Made, BeatAsks, NoteAsks, CellsAsks, cellsAt}
+use Rattle.beat.specs.Making.{Made, touchedCells, crossedCells, cellsBehind, LinesAsks, NoteAsks, CellsAsks, cellsAt}
 
--- ---- one beat
+-- ---- the cell on a line
 
-module _ {s : List ℕ} {at δ : ℕ} {n : Note} {beat line : ℕ} (a : BeatAsks s at δ n beat line) where
-  -- the cells, by the lines touched
-  cells-by : (t u : Bool) → leb (n .start) line ≡ t → leb (line + δ) (n .end) ≡ u
-      → cellsInBeat δ n beat ≡ consIf t (cellAt n beat 0 line) (consIf u (cellAt n beat 1 (line + δ)) [])
-  unfolding cellsInBeat
-  cells-by t u e f =
-      let opens : beat * δ ≡ line = sym (a .opens) in
-      let closes : suc beat * δ ≡ line + δ = suc-mul beat δ ∙ ap (λ (x : ℕ). x + δ) opens in
-      rw (closes, opens, e, f)
+module _ (n : Note) (beat side line : ℕ) where
+  untouched : (leb (n .start) line && leb line (n .end)) ≡ false → (s : List ℕ) (at : ℕ) → Made s at (touchedCells n beat side line) s at
+  unfolding touchedCells splice
+  untouched e s at = record { words = rw e; behind = rw e (omega arith) }
 
-  pub room-opening : n .start ≤ line → at + 6 ≤ length s
-  room-opening h = go (leb (line + δ) (n .end)) refl
-    where
-      go : (u : Bool) → leb (line + δ) (n .end) ≡ u → at + 6 ≤ length s
-      go true f = omega (arith, a .room, ap length (cells-by true true (le-leb _ _ h) f))
-      go false f = omega (arith, a .room, ap length (cells-by true false (le-leb _ _ h) f))
+  pub made-early : line < n .start → (s : List ℕ) (at : ℕ) → Made s at (touchedCells n beat side line) s at
+  made-early low = untouched (rw (lt-leb (n .start) line low))
 
-  pub room-both : n .start ≤ line → line + δ ≤ n .end → at + 12 ≤ length s
-  room-both h k = omega (arith, a .room, ap length (cells-by true true (le-leb _ _ h) (le-leb _ _ k)))
+  pub made-late : n .end < line → (s : List ℕ) (at : ℕ) → Made s at (touchedCells n beat side line) s at
+  made-late high = untouched (rw (lt-leb line (n .end) high, and-false))
 
-  pub room-closing : line < n .start → line + δ ≤ n .end → at + 6 ≤ length s
-  room-closing h k = omega (arith, a .room, ap length (cells-by false true (lt-leb _ _ h) (le-leb _ _ k)))
+  pub touched : n .start ≤ line → line ≤ n .end → touchedCells n beat side line ≡ cellAt n beat side line ∷ []
+  unfolding touchedCells
+  touched low high = rw (le-leb _ _ low, le-leb _ _ high)
 
-  pub made-both : n .start ≤ line → line + δ ≤ n .end → {s₁ : List ℕ} → s₁ ≡ splice s at (cellWords (cellAt n beat 0 line))
-      → {s₂ : List ℕ} → s₂ ≡ splice s₁ (at + 6) (cellWords (cellAt n beat 1 (line + δ))) → Made s at (cellsInBeat δ n beat) s₂ (at + 12)
-  made-both h k e₁ e₂ =
-      let are = cells-by true true (le-leb _ _ h) (le-leb _ _ k) in
-      record {
-        words = e₂ ∙ rw (e₁, are) (sym (splice-append s at (cellWords (cellAt n beat 0 line)) (cellWords (cellAt n beat 1 (line + δ)))));
-        behind = omega (arith, ap length are);
-      }
+  pub made-touched : n .start ≤ line → line ≤ n .end → {s t : List ℕ} {at : ℕ} → t ≡ splice s at (cellWords (cellAt n beat side line))
+      → Made s at (touchedCells n beat side line) t (at + 6)
+  made-touched low high e = record { words = rw (touched low high) e; behind = rw (touched low high) (omega arith) }
 
-  pub made-opening : n .start ≤ line → n .end < line + δ → {s₁ : List ℕ} → s₁ ≡ splice s at (cellWords (cellAt n beat 0 line))
-      → Made s at (cellsInBeat δ n beat) s₁ (at + 6)
-  made-opening h k e =
-      let are = cells-by true false (le-leb _ _ h) (lt-leb _ _ k) in
-      record { words = e ∙ rw are; behind = omega (arith, ap length are) }
+pub crossed : (n : Note) (beat line : ℕ) (s : List ℕ) (at : ℕ) {s₁ s₂ : List ℕ} → s₁ ≡ splice s at (cellWords (cellAt n beat 1 line))
+    → s₂ ≡ splice s₁ (at + 6) (cellWords (cellAt n (beat + 1) 0 line)) → s₂ ≡ splice s at (gather cellWords (crossedCells n beat line))
+unfolding crossedCells
+crossed n beat line s at e₁ e₂ =
+    e₂ ∙ rw (e₁, add-one beat) (sym (splice-append s at (cellWords (cellAt n beat 1 line)) (cellWords (cellAt n (suc beat) 0 line))))
 
-  pub made-closing : line < n .start → line + δ ≤ n .end → {s₁ : List ℕ} → s₁ ≡ splice s at (cellWords (cellAt n beat 1 (line + δ)))
-      → Made s at (cellsInBeat δ n beat) s₁ (at + 6)
-  made-closing h k e =
-      let are = cells-by false true (lt-leb _ _ h) (le-leb _ _ k) in
-      record { words = e ∙ rw are; behind = omega (arith, ap length are) }
+-- ---- a note's cells, from line to line
 
-  pub made-none : line < n .start → n .end < line + δ → Made s at (cellsInBeat δ n beat) s at
-  unfolding splice
-  made-none h k =
-      let are = cells-by false false (lt-leb _ _ h) (lt-leb _ _ k) in
-      record { words = rw are; behind = omega (arith, ap length are) }
+both-or-one : {A : Type 0} (t u : Bool) (x y : A) → consIf t x (consIf u y []) ≡ consIf t x [] ++ consIf u y []
+both-or-one true u x y = refl
+both-or-one false u x y = refl
 
--- ---- one note, beat by beat
+module _ {δ : ℕ} {n : Note} (i : Beats δ n) where
+  -- a beat's cells are those on its two lines
+  beat-lines : (b : ℕ) → firstBeat δ n ≤ b → b ≤ lastBeat δ n
+      → cellsInBeat δ n b ≡ touchedCells n b 0 (b * δ) ++ touchedCells n b 1 (suc b * δ)
+  unfolding cellsInBeat touchedCells
+  beat-lines b low high =
+      let end : b * δ ≤ n .end = omega (arith, i .last-low, mul-le-mul-right δ high) in
+      let start : n .start ≤ suc b * δ = omega (arith, i .high, suc-mul b δ, mul-le-mul-right δ low) in
+      rw (le-leb _ _ end, le-leb _ _ start, and-true) (both-or-one (leb (n .start) (b * δ)) (leb (suc b * δ) (n .end)) (cellAt n b 0 (b * δ)) (cellAt n b 1 (suc b * δ)))
 
--- the cells of the beats from one on
-abbrev beatsFrom : ℕ → Note → ℕ → List Cell
-beatsFrom δ n beat = gather (cellsInBeat δ n) (countFrom (suc (lastBeat δ n) - beat) beat)
+  -- the first line, and those behind it
+  note-lines : cellsOfNote δ n ≡ touchedCells n (firstBeat δ n) 0 (firstBeat δ n * δ) ++ cellsBehind δ n (firstBeat δ n)
+  unfolding cellsOfNote cellsBehind
+  note-lines =
+      let f = firstBeat δ n in
+      let many : suc (lastBeat δ n) - f ≡ suc (lastBeat δ n - f) = omega (arith, i .order) in
+      rw (many, beat-lines f (omega arith) (i .order))
+      (append-assoc (touchedCells n f 0 (f * δ)) (touchedCells n f 1 (suc f * δ)) (gather (cellsInBeat δ n) (countFrom (lastBeat δ n - f) (suc f))))
 
--- the beats ahead of this one are done
-pub record Noting (s₀ s : List ℕ) (at δ : ℕ) (n : Note) (beat line to : ℕ) : Type 0 where
-  pub opens : line ≡ beat * δ
+  module _ (b : ℕ) (low : firstBeat δ n ≤ b) where
+    -- a line that the note crosses
+    next-line : b < lastBeat δ n → cellsBehind δ n b ≡ crossedCells n b (suc b * δ) ++ cellsBehind δ n (suc b)
+    unfolding cellsBehind crossedCells
+    next-line more =
+        let many : lastBeat δ n - b ≡ suc (lastBeat δ n - suc b) = omega arith in
+        let end : suc b * δ ≤ n .end = omega (arith, i .last-low, mul-le-mul-right δ more) in
+        let start : n .start ≤ suc b * δ = omega (arith, i .high, suc-mul b δ, mul-le-mul-right δ low) in
+        rw (touched n b 1 (suc b * δ) start end, many, beat-lines (suc b) (omega arith) more, touched n (suc b) 0 (suc b * δ) start end)
+
+    -- the last line
+    last-line : b ≡ lastBeat δ n → cellsBehind δ n b ≡ touchedCells n b 1 (suc b * δ)
+    unfolding cellsBehind
+    last-line e =
+        let none : lastBeat δ n - b ≡ 0 = omega arith in
+        rw none (append-nil (touchedCells n b 1 (suc b * δ)))
+
+-- ---- the loop over the lines
+
+-- the lines ahead of this one are done
+pub record Lining (s₀ s : List ℕ) (at δ : ℕ) (n : Note) (first beat line to : ℕ) : Type 0 where
+  pub closes : line ≡ suc beat * δ
   pub low : firstBeat δ n ≤ beat
-  pub writes : Writes s₀ s at to (gather cellWords (cellsOfNote δ n)) (gather cellWords (beatsFrom δ n beat))
+  pub high : beat ≤ lastBeat δ n
+  pub writes : Writes s₀ s at to (gather cellWords (cellsBehind δ n first)) (gather cellWords (cellsBehind δ n beat))
 
-pub noting-start : (s : List ℕ) (at δ : ℕ) (n : Note) → Noting s s at δ n (n .start / δ) (n .start / δ * δ) at
-unfolding cellsOfNote
-noting-start s at δ n = record { opens = refl; low = omega arith; writes = writes-start s at (gather cellWords (cellsOfNote δ n)) }
+pub lining-start : {s : List ℕ} {at δ : ℕ} {n : Note} {first next : ℕ} → LinesAsks s at δ n first next → Lining s s at δ n first first next at
+lining-start a = record { closes = a .closes; low = a .low; high = a .high; writes = writes-start _ _ _ }
 
-module _ {s₀ s : List ℕ} {at δ : ℕ} {n : Note} {beat line to : ℕ} (h : NoteAsks s₀ at δ n) (l : Noting s₀ s at δ n beat line to) where
+module _ {s₀ s : List ℕ} {at δ : ℕ} {n : Note} {first next beat line to : ℕ} (a : LinesAsks s₀ at δ n first next) (l : Lining s₀ s at δ n first beat line to) where
   i : Beats δ n
-  i = note-beats δ n (h .note)
+  i = note-beats δ n (a .note)
+
+  -- as many words as are left to write
+  room-left : to + 6 * length (cellsBehind δ n beat) ≤ length s
+  room-left =
+      omega (arith, l .writes .place, l .writes .long, a .room, length-cells (cellsBehind δ n first), length-cells (cellsBehind δ n beat))
+
+  start-low : n .start ≤ line
+  start-low = omega (arith, i .high, l .closes, suc-mul beat δ, mul-le-mul-right δ (l .low))
 
   module _ (more : line < n .end) where
-    pub within : beat ≤ lastBeat δ n
-    within =
-        let below : beat * δ ≤ n .end - 1 = omega (arith, l .opens) in
-        le-div-iff-mul-le (h .note .0) .1 below
+    pub inner-line : beat < lastBeat δ n
+    inner-line =
+        let below : suc beat * δ ≤ n .end - 1 = omega (arith, l .closes) in
+        le-div-iff-mul-le (a .note .0) .1 below
 
-    next : beatsFrom δ n beat ≡ cellsInBeat δ n beat ++ beatsFrom δ n (beat + 1)
-    next =
-        let e : suc (lastBeat δ n) - beat ≡ suc (suc (lastBeat δ n) - (beat + 1)) = omega (arith, within) in
-        rw (e, add-one)
+    splits : cellsBehind δ n beat ≡ crossedCells n beat line ++ cellsBehind δ n (suc beat)
+    splits = rw (l .closes) (next-line i beat (l .low) inner-line)
 
-    left : Writes s₀ s at to (gather cellWords (cellsOfNote δ n)) (gather cellWords (cellsInBeat δ n beat) ++ gather cellWords (beatsFrom δ n (beat + 1)))
-    left = rw (next, gather-append cellWords (cellsInBeat δ n beat) (beatsFrom δ n (beat + 1))) at (l .writes)
+    pub line-asks : (to + 12 ≤ length s) × (n .start ≤ line) × (line ≤ n .end) × (beat < maxBeats)
+    unfolding crossedCells
+    line-asks = (
+      omega (arith, room-left, ap length splits, length-append (crossedCells n beat line) (cellsBehind δ n (suc beat))),
+      start-low,
+      omega arith,
+      omega (arith, inner-line, i .few),
+    )
 
-    pub beat-asks : BeatAsks s to δ n beat line
-    beat-asks =
+    pub lining-line : {t : List ℕ} → t ≡ splice s to (gather cellWords (crossedCells n beat line)) → Lining s₀ t at δ n first (beat + 1) (line + δ) (to + 12)
+    unfolding crossedCells
+    lining-line {t} e =
+        let left = rw (splits, gather-append cellWords (crossedCells n beat line) (cellsBehind δ n (suc beat))) at (l .writes) in
+        let done = writes-run (gather cellWords (crossedCells n beat line)) 12 refl left in
         record {
-          opens = l .opens;
-          ahead = more;
-          behind = omega (arith, i .high, mul-le-mul-right δ (l .low), l .opens);
-          top = h .note .3;
-          few = h .note .1;
-          room =
-              omega (
-                arith,
-                left .place,
-                left .long,
-                h .room,
-                length-cells (cellsOfNote δ n),
-                length-cells (cellsInBeat δ n beat),
-                length-append (gather cellWords (cellsInBeat δ n beat)) (gather cellWords (beatsFrom δ n (beat + 1))),
-              );
-        }
-
-    pub noting-beat : {t : List ℕ} {r : ℕ} → Made s to (cellsInBeat δ n beat) t r → Noting s₀ t at δ n (beat + 1) (line + δ) r
-    noting-beat m =
-        let next = writes-run (gather cellWords (cellsInBeat δ n beat)) (6 * length (cellsInBeat δ n beat)) (length-cells (cellsInBeat δ n beat)) left in
-        record {
-          opens = omega (arith, l .opens, suc-mul beat δ);
+          closes = omega (arith, l .closes, suc-mul (beat + 1) δ, suc-mul beat δ, ap (λ (x : ℕ). x * δ) (add-one beat));
           low = omega (arith, l .low);
-          writes = rw (← m .words, ← m .behind) at next;
+          high = omega (arith, inner-line);
+          writes = rw (add-one beat, e) done;
         }
 
-  pub noted : n .end ≤ line → Made s₀ at (cellsOfNote δ n) s to
-  noted done =
-      let above : n .end - 1 < beat * δ = omega (arith, l .opens, h .note .2) in
-      let past : lastBeat δ n < beat = div-lt-iff-lt-mul (h .note .0) .1 above in
-      let none : suc (lastBeat δ n) - beat ≡ 0 = omega arith in
-      let all = rw none at (l .writes) in
-      record { words = writes-done all; behind = omega (arith, all .place, length-cells (cellsOfNote δ n)) }
+  module _ (done : n .end ≤ line) where
+    outer-line : beat ≡ lastBeat δ n
+    outer-line =
+        let above : n .end - 1 < suc beat * δ = omega (arith, l .closes, a .note .2) in
+        let past : lastBeat δ n < suc beat = div-lt-iff-lt-mul (a .note .0) .1 above in
+        omega (arith, l .high)
+
+    last-is : cellsBehind δ n beat ≡ touchedCells n beat 1 line
+    last-is = rw (l .closes) (last-line i beat (l .low) outer-line)
+
+    pub last-asks : to + 6 * length (touchedCells n beat 1 line) ≤ length s
+    last-asks = omega (arith, room-left, ap length last-is)
+
+    pub lines-done : {t : List ℕ} {r : ℕ} → Made s to (touchedCells n beat 1 line) t r → Made s₀ at (cellsBehind δ n first) t r
+    lines-done {t} {r} m =
+        let all : t ≡ splice s₀ at (gather cellWords (cellsBehind δ n first)) = m .words ∙ ap (λ (cs : List Cell). splice s to (gather cellWords cs)) (sym last-is) ∙ l .writes .same in
+        record {
+          words = all;
+          behind = omega (arith, m .behind, ap length last-is, l .writes .place, length-cells (cellsBehind δ n first), length-cells (cellsBehind δ n beat));
+        }
+
+-- ---- one note
+
+module _ {s : List ℕ} {at δ : ℕ} {n : Note} (a : NoteAsks s at δ n) where
+  j : Beats δ n
+  j = note-beats δ n (a .note)
+
+  abbrev f : ℕ
+  f = firstBeat δ n
+
+  parts : 6 * length (cellsOfNote δ n) ≡ 6 * length (touchedCells n f 0 (f * δ)) + 6 * length (cellsBehind δ n f)
+  parts = omega (arith, ap length (note-lines j), length-append (touchedCells n f 0 (f * δ)) (cellsBehind δ n f))
+
+  pub first-asks : at + 6 * length (touchedCells n f 0 (f * δ)) ≤ length s
+  first-asks = omega (arith, parts, a .room)
+
+  module _ {s₁ : List ℕ} {to : ℕ} (m : Made s at (touchedCells n f 0 (f * δ)) s₁ to) where
+    pub lines-asks : LinesAsks s₁ to δ n f (f * δ + δ)
+    lines-asks =
+        record {
+          note = a .note;
+          closes = sym (suc-mul f δ);
+          low = omega arith;
+          high = j .order;
+          room = omega (arith, parts, a .room, m .behind, ap length (m .words) ∙ length-splice s at (gather cellWords (touchedCells n f 0 (f * δ))));
+        }
+
+    pub note-made : {t : List ℕ} {r : ℕ} → Made s₁ to (cellsBehind δ n f) t r → Made s at (cellsOfNote δ n) t r
+    note-made {t} {r} k =
+        let us = gather cellWords (touchedCells n f 0 (f * δ)) in
+        let ws = gather cellWords (cellsBehind δ n f) in
+        let place : to ≡ at + length us = omega (arith, m .behind, length-cells (touchedCells n f 0 (f * δ))) in
+        let all : gather cellWords (cellsOfNote δ n) ≡ us ++ ws = ap (gather cellWords) (note-lines j) ∙ gather-append cellWords (touchedCells n f 0 (f * δ)) (cellsBehind δ n f) in
+        record {
+          words = k .words ∙ rw (place, m .words, all) (sym (splice-append s at us ws));
+          behind = omega (arith, k .behind, m .behind, parts);
+        }
 
 -- ---- all notes that stand in a shelf
 
