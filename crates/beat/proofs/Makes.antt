@@ -162,8 +162,8 @@ module _ {s₀ s : List ℕ} {at δ : ℕ} {n : Note} {first next beat line to :
     last-is : cellsBehind δ n beat ≡ touchedCells n beat 1 line
     last-is = rw (l .closes) (last-line i beat (l .low) outer-line)
 
-    pub last-asks : to + 6 * length (touchedCells n beat 1 line) ≤ length s
-    last-asks = omega (arith, room-left, ap length last-is)
+    pub last-asks : (to + 6 * length (touchedCells n beat 1 line) ≤ length s) × (n .start ≤ line)
+    last-asks = (omega (arith, room-left, ap length last-is), start-low)
 
     pub lines-done : {t : List ℕ} {r : ℕ} → Made s to (touchedCells n beat 1 line) t r → Made s₀ at (cellsBehind δ n first) t r
     lines-done {t} {r} m =
@@ -185,8 +185,8 @@ module _ {s : List ℕ} {at δ : ℕ} {n : Note} (a : NoteAsks s at δ n) where
   parts : 6 * length (cellsOfNote δ n) ≡ 6 * length (touchedCells n f 0 (f * δ)) + 6 * length (cellsBehind δ n f)
   parts = omega (arith, ap length (note-lines j), length-append (touchedCells n f 0 (f * δ)) (cellsBehind δ n f))
 
-  pub first-asks : at + 6 * length (touchedCells n f 0 (f * δ)) ≤ length s
-  first-asks = omega (arith, parts, a .room)
+  pub first-asks : (at + 6 * length (touchedCells n f 0 (f * δ)) ≤ length s) × (f * δ ≤ n .end)
+  first-asks = (omega (arith, parts, a .room), omega (arith, j .low, a .note .2))
 
   module _ {s₁ : List ℕ} {to : ℕ} (m : Made s at (touchedCells n f 0 (f * δ)) s₁ to) where
     pub lines-asks : LinesAsks s₁ to δ n f (f * δ + δ)

@@ -27,18 +27,27 @@ fn put_cell(s: &mut [u32], at: usize, n: Note, beat: u32, side: u32, line: u32)
     );
 }
 
-// The cell of a note on a line of a beat, if the note touches the line. Returns the place behind it.
-fn put_touched(s: &mut [u32], at: usize, n: Note, beat: u32, side: u32, line: u32) -> usize
-    requires { ⌜ at + 6 * length (touchedCells n beat side line) ≤ length (now s) ⌝ }
-    ensures { λ r. ⌜ Made (now (s .entry)) at (touchedCells n beat side line) (now (s .exit)) r ⌝ }
+// The cell on the opening line of a note's first beat, if the note starts there. Returns the place behind it.
+fn put_first(s: &mut [u32], at: usize, n: Note, beat: u32, line: u32) -> usize
+    requires { ⌜ (at + 6 * length (touchedCells n beat 0 line) ≤ length (now s)) × (line ≤ n .end) ⌝ }
+    ensures { λ r. ⌜ Made (now (s .entry)) at (touchedCells n beat 0 line) (now (s .exit)) r ⌝ }
 {
     if line < n.start {
         return at;
     }
+    put_cell(s, at, n, beat, 0, line);
+    at + 6
+}
+
+// The cell on the closing line of a note's last beat, if the note ends there. Returns the place behind it.
+fn put_last(s: &mut [u32], at: usize, n: Note, beat: u32, line: u32) -> usize
+    requires { ⌜ (at + 6 * length (touchedCells n beat 1 line) ≤ length (now s)) × (n .start ≤ line) ⌝ }
+    ensures { λ r. ⌜ Made (now (s .entry)) at (touchedCells n beat 1 line) (now (s .exit)) r ⌝ }
+{
     if n.end < line {
         return at;
     }
-    put_cell(s, at, n, beat, side, line);
+    put_cell(s, at, n, beat, 1, line);
     at + 6
 }
 
@@ -65,7 +74,7 @@ fn put_lines(s: &mut [u32], at: usize, delta: u32, n: Note, first: u32, next: u3
         beat += 1;
         line += delta;
     }
-    put_touched(s, to, n, beat, 1, line)
+    put_last(s, to, n, beat, line)
 }
 
 // The cells of a note. Returns the place behind them.
@@ -75,7 +84,7 @@ fn put_note(s: &mut [u32], at: usize, delta: u32, n: Note) -> usize
 {
     let first = n.start / delta;
     let line = first * delta;
-    let to = put_touched(s, at, n, first, 0, line);
+    let to = put_first(s, at, n, first, line);
     put_lines(s, to, delta, n, first, line + delta)
 }
 

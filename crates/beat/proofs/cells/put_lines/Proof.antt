@@ -37,16 +37,16 @@ loop-less c = omega (arith, c .before .before .before .before .before .before .b
 loop-again : tie.Need-loop-again Inv-loop μ-loop
 loop-again c = lining-line (c .before .before .before .before .before .before .before .before .pre) (c .before .before .before .before .before .before .loop .inv) (c .before .before .before .before .if1 .taken) (c .before .before .put-line .ensures)
 
-put-touched-requires : tie.Need-put-touched-requires Inv-loop μ-loop
-put-touched-requires c κs = last-asks (c .before .before .before .before .before .pre) (c .before .before .before .loop .inv) (c .before .if1 .left)
+put-last-requires : tie.Need-put-last-requires Inv-loop μ-loop
+put-last-requires c κs = last-asks (c .before .before .before .before .before .pre) (c .before .before .before .loop .inv) (c .before .if1 .left)
 
 same-length : tie.Need-same-length Inv-loop μ-loop
 same-length c =
     let turn = c .before .before .before .before .before .before .loop in
-    ap length (c .before .before .put-touched .ensures .words) ∙ length-splice (turn .s) (turn .to) _ ∙ turn .inv .writes .long
+    ap length (c .before .before .put-last .ensures .words) ∙ length-splice (turn .s) (turn .to) _ ∙ turn .inv .writes .long
 
 returns : tie.Need-returns Inv-loop μ-loop
-returns c = lines-done (c .before .before .before .before .before .before .before .before .pre) (c .before .before .before .before .before .before .loop .inv) (c .before .before .before .before .if1 .left) (c .before .before .put-touched .ensures)
+returns c = lines-done (c .before .before .before .before .before .before .before .before .pre) (c .before .before .before .before .before .before .loop .inv) (c .before .before .before .before .if1 .left) (c .before .before .put-last .ensures)
 
 pub put-lines-spec : {M : Type 1} → statement M
 put-lines-spec =
@@ -61,6 +61,6 @@ put-lines-spec =
     add-line
     loop-less
     loop-again
-    put-touched-requires
+    put-last-requires
     same-length
     returns)

@@ -12,20 +12,20 @@ div-first c = search needs
 mul-line : tie.Need-mul-line
 mul-line c = omega (arith, note-beats (c .before .before .args .delta) (c .before .before .args .n) (c .before .before .pre .note))
 
-put-touched-requires : tie.Need-put-touched-requires
-put-touched-requires c κs = first-asks (c .before .before .before .pre)
+put-first-requires : tie.Need-put-first-requires
+put-first-requires c κs = first-asks (c .before .before .before .pre)
 
 add-put-lines : tie.Need-add-put-lines
 add-put-lines c = omega (arith, note-beats (c .before .before .before .before .before .before .before .args .delta) (c .before .before .before .before .before .before .before .args .n) (c .before .before .before .before .before .before .before .pre .note), c .before .before .before .before .before .before .before .pre .note)
 
 put-lines-requires : tie.Need-put-lines-requires
-put-lines-requires c κs = lines-asks (c .before .before .before .before .before .before .before .pre) (c .before .before .before .put-touched .ensures)
+put-lines-requires c κs = lines-asks (c .before .before .before .before .before .before .before .pre) (c .before .before .before .put-first .ensures)
 
 same-length : tie.Need-same-length
 same-length c = search needs
 
 returns : tie.Need-returns
-returns c = note-made (c .before .before .before .before .before .before .before .before .before .before .pre) (c .before .before .before .before .before .before .put-touched .ensures) (c .before .before .put-lines .ensures)
+returns c = note-made (c .before .before .before .before .before .before .before .before .before .before .pre) (c .before .before .before .before .before .before .put-first .ensures) (c .before .before .put-lines .ensures)
 
 pub put-note-spec : {M : Type 1} → statement M
 put-note-spec =
@@ -33,7 +33,7 @@ put-note-spec =
     (tie.spec
     div-first
     mul-line
-    put-touched-requires
+    put-first-requires
     add-put-lines
     put-lines-requires
     same-length
