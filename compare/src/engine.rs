@@ -22,21 +22,12 @@ unsafe extern "C" {
 pub fn open(session: &mut [u32], header: [u32; 4]) -> u32 {
     let [delta, epsilon, shelves, shelf_words] = header;
     // SAFETY: pointer and length are those of a lent slice.
-    unsafe {
-        take_open(session.as_mut_ptr(), session.len(), delta, epsilon, shelves, shelf_words)
-    }
+    unsafe { take_open(session.as_mut_ptr(), session.len(), delta, epsilon, shelves, shelf_words) }
 }
 
 pub fn lay(session: &mut [u32], shelf: u32, beats: u32, notes: &[u32]) -> u32 {
     // SAFETY: pointers and lengths are those of two lent slices that share no word.
     unsafe {
-        take_lay(
-            session.as_mut_ptr(),
-            session.len(),
-            shelf,
-            beats,
-            notes.as_ptr(),
-            notes.len(),
-        )
+        take_lay(session.as_mut_ptr(), session.len(), shelf, beats, notes.as_ptr(), notes.len())
     }
 }

@@ -45,7 +45,13 @@ impl Pair {
         Ok(number)
     }
 
-    fn lay(&mut self, shelf: u32, beats: u32, list: &[u32], counts: &mut Counts) -> Result<u32, String> {
+    fn lay(
+        &mut self,
+        shelf: u32,
+        beats: u32,
+        list: &[u32],
+        counts: &mut Counts,
+    ) -> Result<u32, String> {
         let notes = Guarded::new(list);
         let number = engine::lay(self.proved.words_mut(), shelf, beats, notes.words());
         let expected = reference::lay(&mut self.second, shelf, beats, list);
@@ -64,9 +70,10 @@ fn any_session(random: &mut Random, counts: &mut Counts) -> Result<(), String> {
     let mut pair = Pair::new(inputs::words(random, length));
     pair.open(header, counts)?;
     for _ in 0..4 {
-        if length >= 4 && random.one_in(8) {
-            let (place, word) = (random.below(4) as usize, random.below(600));
-            pair.set(place, word);
+        let place = random.below(4) as usize;
+        let damaged = (length >= 4 && random.one_in(8)).then(|| pair.second[place]);
+        if damaged.is_some() {
+            pair.set(place, random.below(600));
         }
         let beats = inputs::beats(random);
         let list = inputs::list(random, header, beats);
@@ -75,6 +82,9 @@ fn any_session(random: &mut Random, counts: &mut Counts) -> Result<(), String> {
             _ => random.below(header[2].clamp(1, 64)),
         };
         pair.lay(shelf, beats, &list, counts)?;
+        if let Some(word) = damaged {
+            pair.set(place, word);
+        }
     }
     Ok(())
 }

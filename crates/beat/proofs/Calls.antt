@@ -2,16 +2,14 @@
 use mathlib.Core.Path.{_≡_, refl, sym, ap, _∙_}
 use mathlib.Core.Bool.{Bool, true, false, cond, and-true}
 use mathlib.Core.List.{List, [], _∷_}
-use Prim.Native.Nat.{ℕ, zero, suc, _+_, _*_, _/_, _≤_, _<_}
+use Prim.Native.Nat.{ℕ, zero, suc, _/_, _≤_, _<_}
 use native.Mathlib.Omega.{arith}
 use borrow.Author.Tests.{lt-ltb}
 use lib.Dec.{leb, ltb}
 use lib.ListN.{length}
 use Rattle.words.specs.Splice.{splice}
-use Rattle.model.specs.Lists.{gather}
 use Rattle.model.specs.Limits.{maxBeats, maxDelta, maxWords}
-use Rattle.model.specs.Pieces.{cellsOfNote}
-use Rattle.model.specs.Takes.{wordsUsed, notesOf, wordsOf, shelfWords}
+use Rattle.model.specs.Takes.{wordsUsed, notesOf, wordsOf}
 use Rattle.model.specs.Histories.{recordingTake}
 use Rattle.model.specs.Session.{headerOf, wordsOfHeader, shelfAt, putShelf}
 use Rattle.model.specs.Machine.{Call, layCall, listed}
@@ -26,7 +24,7 @@ use Rattle.session.proofs.Entries.{Entered}
 use Rattle.laws.specs.Reading.{length-read}
 use Rattle.beat.specs.Laying.{layOf, listFits, layAsked, laidWords, LayAsks}
 use Rattle.beat.specs.declared.laying.LayAnswer.the-variants.{Cells, Refused}
-use Rattle.beat.proofs.Asks.{Listed, list-passed, Laid}
+use Rattle.beat.proofs.Asks.{list-passed, Laid}
 
 -- ---- any call
 

@@ -1,6 +1,5 @@
 -- Laying a list whose questions are answered yes. Assumes nothing.
-use mathlib.Core.Path.{_≡_, refl, sym, ap, _∙_}
-use mathlib.Core.Bool.{true}
+use mathlib.Core.Path.{_≡_, ap, _∙_}
 use mathlib.Core.List.{List}
 use Prim.Native.Nat.{ℕ, _+_, _*_, _/_, _≤_, _<_}
 use native.Mathlib.Nat.{mul-le-mul-right, suc-mul}
@@ -9,7 +8,7 @@ use lib.ListN.{length, take, drop}
 use lib.Seq.{take-length}
 use Rattle.words.specs.Splice.{splice, length-splice}
 use Rattle.model.specs.Lists.{gather}
-use Rattle.model.specs.Limits.{maxBeats, maxShelves, maxDelta, maxWords}
+use Rattle.model.specs.Limits.{maxShelves}
 use Rattle.model.specs.Session.{shelfAt}
 use Rattle.model.specs.Pieces.{cellsOfNote}
 use Rattle.model.specs.Takes.{noteWords, cellWords, wordsUsed, readNotes, shelfWords}
@@ -25,7 +24,7 @@ use Rattle.laws.specs.Reading.{length-read}
 use Rattle.session.proofs.Readings.{notes-words, notes-written}
 use Rattle.beat.specs.Making.{Made, CellsAsks, cellsAt}
 use Rattle.beat.specs.Laying.{LayAsks, laidWords}
-use Rattle.beat.proofs.Asks.{Listed, list-passed}
+use Rattle.beat.proofs.Asks.{list-passed}
 
 module _ {s : List ℕ} {h : Header} {shelf beats : ℕ} {ws : List ℕ} {count : ℕ} (a : LayAsks s h shelf beats ws count) where
   abbrev k : ℕ

@@ -2,7 +2,6 @@
 ghost use mathlib.Core.Path.{_≡_};
 ghost use Prim.Native.Nat.{_+_, _*_, _≤_, _<_};
 ghost use lib.Dec.{leb};
-ghost use lib.ListN.{length};
 ghost use Rattle.words.specs.Splice.{splice};
 ghost use Rattle.model.specs.Limits.{maxDelta, maxWords};
 ghost use Rattle.model.specs.Session.{shelfAt};

@@ -1,8 +1,8 @@
 -- Question 1 in parts: the ranges of δ and ε, those of K and W, the length. Assumes nothing.
-use mathlib.Core.Path.{_≡_, refl, sym, ap, _∙_}
+use mathlib.Core.Path.{_≡_, refl, ap}
 use mathlib.Core.Bool.{Bool, true, false, cond, _&&_}
-use mathlib.Core.List.{List, [], _∷_}
-use Prim.Native.Nat.{ℕ, _+_, _*_, _≤_}
+use mathlib.Core.List.{List, []}
+use Prim.Native.Nat.{ℕ, _*_, _≤_}
 use native.Mathlib.Nat.{mul-le-mul}
 use native.Mathlib.Omega.{arith}
 use borrow.Author.Tests.{leb-true, eqb-true}
@@ -12,7 +12,6 @@ use Rattle.model.specs.Session.{headerOf, wordsOfHeader, sessionLength}
 use Rattle.model.specs.Questions.{headerOk}
 use Rattle.model.specs.Answers.{answerOf, headerAsked}
 use Rattle.model.specs.declared.Header.{Header}
-use Rattle.model.specs.declared.HeaderAnswer.{HeaderAnswer}
 use Rattle.model.specs.declared.HeaderAnswer.the-variants.{Valid, Refused}
 
 abbrev pub ticksOk : ℕ → ℕ → Bool

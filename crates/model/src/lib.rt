@@ -31,21 +31,25 @@ impl Header {
 
     pub const SHELVES: u32 = 64;
 
-    // δ is at most this; δ, ε and K are at least 1, and ε is at most δ.
+    // The range of δ, the least ε (the most is δ), and the range of W.
+    pub const DELTA_MIN: u32 = 1;
+
     pub const DELTA_MAX: u32 = 32767;
 
-    // The range of W.
-    pub const WORDS_MIN: u32 = 3;
+    pub const EPSILON_MIN: u32 = 1;
 
-    pub const WORDS_MAX: u32 = 1048576;
+    pub const SHELF_WORDS_MIN: u32 = 3;
+
+    pub const SHELF_WORDS_MAX: u32 = 1048576;
 
     // The words of the header itself.
     pub const WORDS: usize = 4;
 
-    // Question 1 for four header words and a session of `length` words. The second promise ties the constants to the paper's limits.
+    // Question 1 for four header words and a session of `length` words. The second promise ties the constants to the
+    // definitions; those of the ranges are tied by the first.
     pub fn new(delta: u32, epsilon: u32, shelves: u32, words: u32, length: usize) -> HeaderAnswer
         ensures asked { λ r. ⌜ answerOf r ≡ headerAsked (record { delta = delta; epsilon = epsilon; shelves = shelves; words = words }) length ⌝ }
-        ensures limits { λ _. do ⌜ ((← ⟦Header::BEATS⟧ .entry) ≡ maxBeats) × ((← ⟦Header::LANES⟧ .entry) ≡ laneCount) ⌝ }
+        ensures limits { λ _. do ⌜ ((← ⟦Header::BEATS⟧ .entry) ≡ maxBeats) × ((← ⟦Header::LANES⟧ .entry) ≡ laneCount) × ((← ⟦Header::SHELVES⟧ .entry) ≡ maxShelves) × ((← ⟦Header::WORDS⟧ .entry) ≡ headerWords) ⌝ }
     {
         if !ticks_ok(delta, epsilon) {
             return HeaderAnswer::Refused;
@@ -69,13 +73,13 @@ impl Header {
 fn ticks_ok(delta: u32, epsilon: u32) -> bool
     ensures { λ r. ⌜ r ≡ (leb 1 delta && leb delta maxDelta && leb 1 epsilon && leb epsilon delta) ⌝ }
 {
-    if delta < 1 {
+    if delta < Header::DELTA_MIN {
         return false;
     }
     if Header::DELTA_MAX < delta {
         return false;
     }
-    if epsilon < 1 {
+    if epsilon < Header::EPSILON_MIN {
         return false;
     }
     epsilon <= delta
@@ -91,10 +95,10 @@ fn shelves_ok(shelves: u32, words: u32) -> bool
     if Header::SHELVES < shelves {
         return false;
     }
-    if words < Header::WORDS_MIN {
+    if words < Header::SHELF_WORDS_MIN {
         return false;
     }
-    words <= Header::WORDS_MAX
+    words <= Header::SHELF_WORDS_MAX
 }
 
 // A note: its lane (channel × 128 + key), start and end in ticks, velocity.

@@ -1,8 +1,8 @@
 -- The check of a note list: what holds before each note. Assumes nothing.
-use mathlib.Core.Path.{_≡_, refl, sym, ap, _∙_}
+use mathlib.Core.Path.{_≡_, refl, ap, _∙_}
 use mathlib.Core.Logic.{⊎-elim}
 use mathlib.Core.Bool.{Bool, true, false, _&&_, _||_, and-false}
-use mathlib.Core.List.{List, [], _∷_, _++_}
+use mathlib.Core.List.{List, [], _∷_}
 use Prim.Native.Nat.{ℕ, zero, suc, _+_, _*_, _-_, _/_, _%_, _≤_, _<_}
 use native.Mathlib.Nat.{mul-le-mul, mul-le-mul-left, mul-le-mul-right, add-mul, suc-mul, div-add-mod', eq-or-lt-of-le, sub-zero}
 use native.Mathlib.Omega.{arith}
@@ -23,7 +23,7 @@ use Rattle.session.specs.Counting.{oneIf}
 use Rattle.session.specs.Reading.{noteAt}
 use Rattle.session.specs.Listing.{listOf, listAsked, cellsListed}
 use Rattle.session.specs.declared.list.ListAnswer.the-variants.{Cells, Refused}
-use Rattle.session.proofs.Counts.{Beats, note-beats, count-note}
+use Rattle.session.proofs.Counts.{note-beats, count-note}
 use Rattle.session.proofs.Readings.{notes-cons}
 
 -- ---- one note

@@ -1,8 +1,8 @@
 -- How many cells a note has. Assumes nothing.
-use mathlib.Core.Path.{_≡_, refl, sym, ap, _∙_}
+use mathlib.Core.Path.{_≡_, sym, ap}
 use mathlib.Core.Bool.{Bool, true, false}
-use mathlib.Core.List.{List, [], _∷_, _++_}
-use Prim.Native.Nat.{ℕ, zero, suc, _+_, _*_, _-_, _/_, _≤_, _<_}
+use mathlib.Core.List.{List, []}
+use Prim.Native.Nat.{ℕ, zero, suc, _+_, _*_, _-_, _≤_, _<_}
 use native.Mathlib.Nat.{mul-le-mul-right, le-div-iff-mul-le, div-mul-le-self, lt-div-mul-add, div-lt-iff-lt-mul, suc-mul}
 use native.Mathlib.Omega.{arith}
 use borrow.Author.Tests.{le-leb}
@@ -12,7 +12,6 @@ use Rattle.model.specs.Lists.{consIf, gather, countFrom}
 use Rattle.model.specs.Limits.{maxBeats, maxDelta}
 use Rattle.model.specs.Pieces.{firstBeat, lastBeat, cellsInBeat, cellsOfNote, cellAt}
 use Rattle.model.specs.declared.Note.{Note}
-use Rattle.model.specs.declared.Cell.{Cell}
 use Rattle.session.specs.Counting.{oneIf}
 
 -- where a note's first and last beats lie

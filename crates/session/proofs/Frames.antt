@@ -1,10 +1,10 @@
 -- A whole shelf as one splice. Assumes nothing.
 use mathlib.Core.Path.{_≡_, refl, sym, ap, _∙_}
 use mathlib.Core.List.{List, [], _∷_, _++_}
-use Prim.Native.Nat.{ℕ, _+_, _*_, _-_, _≤_}
+use Prim.Native.Nat.{ℕ, _+_, _*_, _-_}
 use native.Mathlib.Omega.{arith}
 use lib.ListN.{length, replicate, length-append}
-use Rattle.words.specs.Apart.{Apart, Apart.ahead, Apart.behind}
+use Rattle.words.specs.Apart.{Apart.ahead}
 use Rattle.words.specs.Splice.{splice, splice-append, splice-append-last, splice-comm}
 use Rattle.model.specs.Lists.{gather}
 use Rattle.model.specs.Takes.{noteWords, cellWords, wordsUsed, shelfWords}

@@ -10,7 +10,6 @@ use Rattle.words.specs.Parts.{Same}
 use Rattle.words.specs.Splice.{splice, splice-parts}
 use Rattle.model.specs.Lists.{gather}
 use Rattle.model.specs.Takes.{noteWords, readNotes}
-use Rattle.model.specs.declared.Note.{Note}
 use Rattle.laws.specs.Reading.{read-notes, length-read}
 use Rattle.session.specs.Reading.{noteAt}
 

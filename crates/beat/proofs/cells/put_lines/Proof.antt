@@ -2,11 +2,9 @@
 use Rattle.words.specs.Splice.{length-splice}
 use lib.ListN.{length}
 use mathlib.Core.Path.{ap, _∙_}
-use Rattle.beat.proofs.Makes.{Lining, lining-start, inner-line, line-asks, lining-line, last-asks, lines-done}
-use Rattle.session.proofs.Counts.{note-beats}
+use Rattle.beat.proofs.Makes.{Lining, lining-start, line-asks, lining-line, last-asks, lines-done}
 use Prim.Native.Nat.{_-_}
 use native.Mathlib.Omega.{arith}
-use borrow.Author.Needs.{needs}
 use Rattle.beat.proofs.cells.put_lines.Statement.{statement}
 use Rattle.beat.proofs.cells.put_lines.Tie as tie
 

@@ -2,7 +2,7 @@
 use Rattle.beat.proofs.Calls.{refused-entry, asked-asks, lay-asks, refused-asked, lay-done}
 use Rattle.beat.proofs.Asks.{laid-means}
 use Rattle.beat.specs.Laying.{layOf}
-use Rattle.session.proofs.Entries.{Entered, granted-means}
+use Rattle.session.proofs.Entries.{granted-means}
 use Rattle.session.specs.Entering.{entryOf}
 use mathlib.Core.Path.{sym, ap, _∙_}
 use borrow.Author.Needs.{needs}

@@ -11,7 +11,7 @@ ticks-ok-requires : tie.Need-ticks-ok-requires
 ticks-ok-requires c κs = search needs
 
 returns : tie.Need-returns
-returns c = (wrong-ticks _ _ (sym (c .before .ticks-ok .ensures) ∙ not-true _ (c .if1 .taken)), (refl, refl))
+returns c = (wrong-ticks _ _ (sym (c .before .ticks-ok .ensures) ∙ not-true _ (c .if1 .taken)), (refl, refl, refl, refl))
 
 shelves-ok-requires : tie.Need-shelves-ok-requires
 shelves-ok-requires c κs = search needs
@@ -20,7 +20,7 @@ returns-2 : tie.Need-returns-2
 returns-2 c = (
   wrong-shelves _ _ (sym (c .before .before .before .ticks-ok .ensures) ∙ not-false _ (c .before .before .if1 .left))
       (sym (c .before .shelves-ok .ensures) ∙ not-true _ (c .if2 .taken)),
-  (refl, refl),
+  (refl, refl, refl, refl),
 )
 
 mul-if3 : tie.Need-mul-if3
@@ -33,14 +33,14 @@ returns-3 : tie.Need-returns-3
 returns-3 c = (
   by-length _ _ (sym (c .before .before .before .before .ticks-ok .ensures) ∙ not-false _ (c .before .before .before .if1 .left))
       (sym (c .before .before .shelves-ok .ensures) ∙ not-false _ (c .before .if2 .left)) (ne-eqb _ _ (c .if3 .taken)),
-  (refl, refl),
+  (refl, refl, refl, refl),
 )
 
 returns-4 : tie.Need-returns-4
 returns-4 c = (
   by-length _ _ (sym (c .before .before .before .before .ticks-ok .ensures) ∙ not-false _ (c .before .before .before .if1 .left))
       (sym (c .before .before .shelves-ok .ensures) ∙ not-false _ (c .before .if2 .left)) (eq-eqb _ _ (c .if3 .left)),
-  (refl, refl),
+  (refl, refl, refl, refl),
 )
 
 pub new-spec : {M : Type 1} → statement M

@@ -1,6 +1,5 @@
 -- `session::cells::cell_count` meets its contract. Assumes nothing.
-use mathlib.Core.Path.{refl, _∙_}
-use Rattle.session.proofs.Counts.{Beats, note-beats, count-note}
+use Rattle.session.proofs.Counts.{note-beats, count-note}
 use native.Mathlib.Omega.{arith}
 use borrow.Author.Needs.{needs}
 use Rattle.session.proofs.cells.cell_count.Statement.{statement}

@@ -1,7 +1,6 @@
 -- `session::cells::one_if_within` meets its contract. Assumes nothing.
 use native.Mathlib.Omega.{arith}
 use borrow.Author.Tests.{lt-ltb, le-ltb, lt-leb, le-leb, eq-eqb, ne-eqb}
-use borrow.Author.Needs.{needs}
 use Rattle.session.proofs.cells.one_if_within.Statement.{statement}
 use Rattle.session.proofs.cells.one_if_within.Tie as tie
 

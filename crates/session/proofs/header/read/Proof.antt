@@ -2,7 +2,6 @@
 use native.Mathlib.Omega.{arith}
 use Rattle.session.proofs.Entries.{short}
 use Rattle.model.specs.Session.{headerOf}
-use mathlib.Core.Path.{refl}
 use borrow.Author.Needs.{needs}
 use Rattle.session.proofs.header.read.Statement.{statement}
 use Rattle.session.proofs.header.read.Tie as tie

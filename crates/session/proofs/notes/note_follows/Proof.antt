@@ -2,7 +2,6 @@
 use Rattle.model.specs.Soundness.{follows}
 use native.Mathlib.Omega.{arith}
 use borrow.Author.Tests.{lt-ltb, le-ltb, lt-leb, le-leb, eq-eqb, ne-eqb}
-use borrow.Author.Needs.{needs}
 use Rattle.session.proofs.notes.note_follows.Statement.{statement}
 use Rattle.session.proofs.notes.note_follows.Tie as tie
 

@@ -1,7 +1,5 @@
 -- `session::shelf::put_frame` meets its contract. Assumes nothing.
 use Rattle.session.proofs.Frames.{frame-done}
-use Rattle.session.specs.Framing.{framed}
-use mathlib.Core.Path.{_∙_, ap}
 use borrow.Author.Needs.{needs}
 use Rattle.session.proofs.shelf.put_frame.Statement.{statement}
 use Rattle.session.proofs.shelf.put_frame.Tie as tie
