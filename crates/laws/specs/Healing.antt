@@ -14,7 +14,7 @@ use Rattle.model.specs.Histories.{Recording, recordingTake}
 use Rattle.model.specs.Lists.{consIf, countFrom, gather, keep}
 use Rattle.model.specs.Pieces.{cellAt, cellsInBeat, cellsOfNote, inside, insideAt}
 use Rattle.model.specs.Soundness.{notesOk}
-use Rattle.model.specs.Takes.{merge, notesOf}
+use Rattle.model.specs.Takes.{merge, notesOf, shelfWords, wordsOf}
 use Rattle.model.specs.declared.Cell.{Cell}
 use Rattle.model.specs.declared.Header.{Header}
 use Rattle.model.specs.declared.Note.{Note}
@@ -221,3 +221,9 @@ unfolding notesOf recordingTake
 notes-again H z r e =
     ap (merge (keep (inside (H .delta)) (r .notes))) (lines-again H z (r .notes) (long-notes (H .delta) (r .beats) (r .notes) e))
     ∙ merge-parts (inside (H .delta)) (r .notes) (ok-sorted (H .delta) (r .beats) (r .notes) e)
+
+-- and so its words are its own notes and all its cells
+pub laid-words : (H : Header) (r : Recording) → notesOf H (recordingTake (H .delta) r) ≡ r .notes
+    → wordsOf H (recordingTake (H .delta) r) ≡ shelfWords (H .words) (r .beats) (r .notes) (gather (cellsOfNote (H .delta)) (r .notes))
+unfolding wordsOf recordingTake
+laid-words H r e = ap (λ (ns : List Note). shelfWords (H .words) (r .beats) ns (gather (cellsOfNote (H .delta)) (r .notes))) e

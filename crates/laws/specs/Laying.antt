@@ -63,7 +63,7 @@ module _ {A : Type 0} (lane beat : A → ℕ) (to : ℕ → A → A) (of : ℕ �
   pub lay-is : (n : ℕ) (xs : List A) → of r ≡ xs → Pairs (Ordered lane beat to) xs → All (Ranged lane beat to n) xs → byLane lane (placed beat to of 0 (pairsOf r n 0)) ≡ xs
   lay-is n xs e s a = lay-all n (subst (Pairs (Ordered lane beat to)) (sym e) s) (subst (All (Ranged lane beat to n)) (sym e) a) ∙ e
 
-length-pairsOf : (r k b : ℕ) → length (pairsOf r k b) ≡ k
+pub length-pairsOf : (r k b : ℕ) → length (pairsOf r k b) ≡ k
 length-pairsOf r zero b = refl
 length-pairsOf r (suc k) b = ap suc (length-pairsOf r k (suc b))
 

@@ -21,5 +21,10 @@ pub mod Chain
 pub mod ChainSolid
 pub mod Reversal
 pub mod Counting
+pub mod Sessions
+pub mod Steps
+pub mod Accepted
+pub mod CallSteps
+pub mod Claim
 pub mod Sweep
 pub mod Joining

@@ -78,6 +78,10 @@ record In (n : Note) (low high : ℕ) (c : Cell) : Type 0 where
   from : low ≤ c .beat
   upto : c .beat ≤ high
 
+-- A recording that lay accepts: its beats within the limit, its notes in range and in order.
+abbrev pub Valid : ℕ → Recording → Type 0
+Valid δ r = (r .beats ≤ 4096) × (notesOk δ (r .beats) (r .notes) ≡ true)
+
 module _ (δ : ℕ) (z : 0 < δ) where
   -- the ticks of the beats that a note has pieces in
   beat-low : (n : Note) (b : ℕ) → n .start / δ ≤ b → n .start < suc b * δ
