@@ -33,7 +33,7 @@ use Rattle.laws.specs.Walk.{line-from, walkFrom}
 
 -- ---- cells
 
-apart-before : (δ : ℕ) (c d : Cell) → Apart δ c d → cellBefore c d ≡ true
+pub apart-before : (δ : ℕ) (c d : Cell) → Apart δ c d → cellBefore c d ≡ true
 unfolding cellBefore
 apart-before δ c d (lane-up a) = or-left (eqb (c .lane) (d .lane) && (ltb (c .beat) (d .beat) || eqb (c .beat) (d .beat) && ltb (c .side) (d .side))) (lt-ltb (c .lane) (d .lane) a)
 apart-before δ c d (beat-up a b) = or-right (ltb (c .lane) (d .lane)) (and-yes (eq-eqb (c .lane) (d .lane) a) (or-left (eqb (c .beat) (d .beat) && ltb (c .side) (d .side)) (lt-ltb (c .beat) (d .beat) b)))
@@ -50,7 +50,7 @@ pub open-filled : (δ : ℕ) (c : Cell) → opening c ≡ true → filled δ c �
 unfolding filled
 open-filled δ c e = rw e
 
-pair-partners : (δ : ℕ) (c d : Cell) → Pair δ c d → partners δ c d ≡ true
+pub pair-partners : (δ : ℕ) (c d : Cell) → Pair δ c d → partners δ c d ≡ true
 unfolding partners
 pair-partners δ c d q =
     let b : d .before ≡ c .before + δ = q .before-is in
@@ -173,7 +173,7 @@ parts H ws e =
 
 -- ---- cells
 
-fine-of : (δ beats : ℕ) (c : Cell) → cellOk δ beats c ≡ true → Fine δ beats c
+pub fine-of : (δ beats : ℕ) (c : Cell) → cellOk δ beats c ≡ true → Fine δ beats c
 unfolding cellOk
 fine-of δ beats c e =
     let a = cellInRange beats c in
@@ -318,7 +318,7 @@ module _ (δ : ℕ) where
             double w (q (not-filled d x (chain-first d x xs (chain-more c d (x ∷ xs) e)) (not-open δ d (ne-eqb (d .side) 0 (omega arith)))))
         go false p r q = single p g (r (not-filled c d (chain-first c d (x ∷ xs) e) p))
 
-    sound-pieced : (cs : List Cell) → All (Fine δ beats) cs → cellsSound δ cs ≡ true → Pieced δ cs
+    pub sound-pieced : (cs : List Cell) → All (Fine δ beats) cs → cellsSound δ cs ≡ true → Pieced δ cs
     unfolding cellsSound
     sound-pieced [] k e = stop
     sound-pieced (c ∷ cs) k e = chain-pieced c cs (k .0) (k .1) (go (filled δ c) (and-left (not (filled δ c)) (cellsChain δ c cs) e)) (and-right (not (filled δ c)) (cellsChain δ c cs) e)
@@ -327,12 +327,12 @@ module _ (δ : ℕ) where
         go true p = absurd (true≢false (sym p))
         go false p = refl
 
-    sound-apart : (cs : List Cell) → All (Fine δ beats) cs → cellsSound δ cs ≡ true → Pairs (Apart δ) cs
+    pub sound-apart : (cs : List Cell) → All (Fine δ beats) cs → cellsSound δ cs ≡ true → Pairs (Apart δ) cs
     unfolding cellsSound
     sound-apart [] k e = tt
     sound-apart (c ∷ cs) k e = chain-pairs c cs (k .0) (k .1) (and-right (not (filled δ c)) (cellsChain δ c cs) e)
 
-  clear-of : (n : Note) (c : Cell) → clear δ n c ≡ true → Clear δ n c
+  pub clear-of : (n : Note) (c : Cell) → clear δ n c ≡ true → Clear δ n c
   unfolding clear
   clear-of n c e = record {
     behind = λ l b o. leb-true (c .beat * δ + c .after) (n .start) (rw (eq-eqb (n .lane) (c .lane) l, eq-eqb (firstBeat δ n) (c .beat) b, o) at e);

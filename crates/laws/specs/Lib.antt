@@ -19,6 +19,9 @@ pub mod Moving
 pub mod Reading
 pub mod Chain
 pub mod ChainSolid
+pub mod Overlap
+pub mod Partners
+pub mod Clauses
 pub mod Reversal
 pub mod Counting
 pub mod Sessions

@@ -199,7 +199,7 @@ module _ (H : Header) (beats : ℕ) (z : 0 < (H .delta)) (le : (H .epsilon) ≤ 
   ]
 
   -- where the first cell behind starts
-  first-from : {e : Cell} {es : List Cell} → Pieced (H .delta) (e ∷ es) → Fine (H .delta) beats e → e .beat * (H .delta) ≤ startOf (H .delta) e
+  pub first-from : {e : Cell} {es : List Cell} → Pieced (H .delta) (e ∷ es) → Fine (H .delta) beats e → e .beat * (H .delta) ≤ startOf (H .delta) e
   first-from {e} (single f g p) k = let r = (spans-single e f g k) .from in rw ((spans-single e f g k) .is-start) at r
   first-from (double {c = c} {d = d} q p) k = (spans-double c d q k) .from
 
@@ -207,7 +207,7 @@ module _ (H : Header) (beats : ℕ) (z : 0 < (H .delta)) (le : (H .epsilon) ≤ 
   unfolding startOf endOf
   side-lines c e b o p j = rw (eq-eqb (c .side) 0 o, ne-eqb (e .side) 0 (omega arith), b) (omega arith)
 
-  single-gap : (c e : Cell) → fills (H .delta) c ≡ false → filled (H .delta) c ≡ false → Fine (H .delta) beats c → e .beat * (H .delta) ≤ startOf (H .delta) e → Apart (H .delta) c e
+  pub single-gap : (c e : Cell) → fills (H .delta) c ≡ false → filled (H .delta) c ≡ false → Fine (H .delta) beats c → e .beat * (H .delta) ≤ startOf (H .delta) e → Apart (H .delta) c e
       → (c .lane ≤ e .lane) × (e .lane ≡ c .lane → endOf (H .delta) c ≤ startOf (H .delta) e)
   single-gap c e f g k h (lane-up a) = (omega arith, λ q. absurd (omega arith))
   single-gap c e f g k h (beat-up a b) =
@@ -216,7 +216,7 @@ module _ (H : Header) (beats : ℕ) (z : 0 < (H .delta)) (le : (H .epsilon) ≤ 
       (omega arith, λ q. omega arith)
   single-gap c e f g k h (side-up a b o p i) = (omega arith, λ q. side-lines c e b o p (i f))
 
-  double-gap : (c d e : Cell) → Pair (H .delta) c d → Fine (H .delta) beats c → e .beat * (H .delta) ≤ startOf (H .delta) e → Apart (H .delta) d e
+  pub double-gap : (c d e : Cell) → Pair (H .delta) c d → Fine (H .delta) beats c → e .beat * (H .delta) ≤ startOf (H .delta) e → Apart (H .delta) d e
       → (c .lane ≤ e .lane) × (e .lane ≡ c .lane → endOf (H .delta) d ≤ startOf (H .delta) e)
   double-gap c d e q k h (lane-up a) = let l = q .lane-same in (omega arith, λ r. absurd (omega arith))
   double-gap c d e q k h (beat-up a b) =
@@ -295,7 +295,7 @@ module _ (H : Header) (beats : ℕ) (z : 0 < (H .delta)) (le : (H .epsilon) ≤ 
       ]
     ]
 
-    away-single : (c : Cell) → fills (H .delta) c ≡ false → filled (H .delta) c ≡ false → Fine (H .delta) beats c → Clear (H .delta) n c → Away n (own (H .delta) c)
+    pub away-single : (c : Cell) → fills (H .delta) c ≡ false → filled (H .delta) c ≡ false → Fine (H .delta) beats c → Clear (H .delta) n c → Away n (own (H .delta) c)
     unfolding own startOf endOf
     away-single c f g k w = away-span c (own (H .delta) c) (spans-single c f g k) (λ l b. go (opening c) refl l b)
       where
@@ -303,7 +303,7 @@ module _ (H : Header) (beats : ℕ) (z : 0 < (H .delta)) (le : (H .epsilon) ≤ 
         go true e l b = let x = w .behind l b e in rw e (right (later (sym l) x))
         go false e l b = let x = w .before l b e in rw e (left (later l (omega arith)))
 
-    away-double : (c d : Cell) → Pair (H .delta) c d → Fine (H .delta) beats c → Clear (H .delta) n c → Away n (whole c d)
+    pub away-double : (c d : Cell) → Pair (H .delta) c d → Fine (H .delta) beats c → Clear (H .delta) n c → Away n (whole c d)
     away-double c d q k w = away-span c (whole c d) (spans-double c d q k) (λ l b.
         let x = w .behind l b (pair-open (H .delta) c d q) in
         let y = q .long in
