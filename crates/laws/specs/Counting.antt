@@ -23,12 +23,11 @@ use Rattle.laws.specs.ChainSolid.{Parts, parts, sound-notes, sound-solid
 use Rattle.laws.specs.Lists.{length-keep, length-map}
 use Rattle.laws.specs.Merging.{length-merge}
 use Rattle.laws.specs.Moving.{solid-left, solid-right}
-use Rattle.laws.specs.Order.{walk-double, walk-single, whole}
 use Rattle.laws.specs.Reading.{length-cells, length-read}
 use Rattle.laws.specs.Relations.{All, Pairs, all-imp, all-keep, all-kept}
-use Rattle.laws.specs.Rules.{Pair, Pieced, double, single, stop}
+use Rattle.laws.specs.Rules.{Pair, Pieced, double, own, single, span, stop}
 use Rattle.laws.specs.Solid.{Apart, Solid, beat-up, lane-up, side-up}
-use Rattle.laws.specs.Walk.{line-walk, linked, own, walk}
+use Rattle.laws.specs.Walk.{line-walk, linked, walk, walk-double, walk-single}
 
 -- ---- how many notes a piece adds
 
@@ -198,10 +197,10 @@ module _ (H : Header) (z : 0 < (H .delta)) (le : (H .epsilon) ≤ (H .delta)) (p
   or-mono false l m f e = f e
 
   length-single : (c : Cell) (cs : List Cell) (held : Bool) → fills (H .delta) c ≡ false → length (walk H held (c ∷ cs)) ≡ count (boundNext H c cs) (standsAlone H c || held) (length (walk H (boundNext H c cs) cs))
-  length-single c cs held f = ap length (walk-single H 0 z le c cs held f) ∙ length-step (own (H .delta) c) (walk H (boundNext H c cs) cs) (boundNext H c cs) (standsAlone H c || held)
+  length-single c cs held f = ap length (walk-single H c cs held f) ∙ length-step (own (H .delta) c) (walk H (boundNext H c cs) cs) (boundNext H c cs) (standsAlone H c || held)
 
   length-double : (c d : Cell) (cs : List Cell) (held : Bool) → Pair (H .delta) c d → length (walk H held (c ∷ d ∷ cs)) ≡ count (boundNext H d cs) true (length (walk H (boundNext H d cs) cs))
-  length-double c d cs held w = ap length (walk-double H 0 z le c d cs held w) ∙ length-step (whole H 0 z le c d) (walk H (boundNext H d cs) cs) (boundNext H d cs) true
+  length-double c d cs held w = ap length (walk-double H c d cs held w) ∙ length-step (span (H .delta) c d) (walk H (boundNext H d cs) cs) (boundNext H d cs) true
 
   counts-single : (c : Cell) (cs : List Cell) → fills (H .delta) c ≡ false → Pairs (Apart (H .delta)) (c ∷ cs) → Counts cs → Counts (c ∷ cs)
   counts-single c cs f s ih = record { weak = weak-one; strong = strong-one }

@@ -7,8 +7,9 @@ pub mod Notes
 pub mod Merging
 pub mod Histories
 pub mod Rules
-pub mod Walk
 pub mod Solid
+pub mod Spans
+pub mod Walk
 pub mod Order
 pub mod Lines
 pub mod OneNote

@@ -16,11 +16,10 @@ use Rattle.model.specs.declared.Header.{Header}
 use Rattle.model.specs.declared.Note.{Note}
 use Rattle.laws.specs.Booleans.{or-left, or-right}
 use Rattle.laws.specs.Notes.{Away, Follow, above, later, left, right}
-use Rattle.laws.specs.Order.{away-double, away-single, double-gap, first-from, single-gap}
 use Rattle.laws.specs.Relations.{All, Pairs, all-imp}
-use Rattle.laws.specs.Rules.{Pair, Pieced, double, pair-close, pair-fills, pair-open, single, step-fill, step-single, stop}
+use Rattle.laws.specs.Rules.{Pair, Pieced, double, own, pair-close, pair-fills, pair-open, single, span, step-fill, step-single, stop}
 use Rattle.laws.specs.Solid.{Apart, Clear, Fine, beat-up, lane-up, side-up}
-use Rattle.laws.specs.Walk.{own}
+use Rattle.laws.specs.Spans.{away-double, away-single, double-gap, first-from, single-gap}
 
 -- ---- two notes
 
@@ -49,15 +48,11 @@ away-flip m n (right f) = left f
 -- ---- the pieces of cells
 
 module _ (δ : ℕ) where
-  -- the piece of two cells
-  abbrev pub span : Cell → Cell → Note
-  span c d = record { lane = c .lane; start = startOf δ c; end = endOf δ d; velocity = c .velocity }
-
   -- the pieces, as notes, hidden ones included
   abbrev pub pieceNotes : {cs : List Cell} → Pieced δ cs → List Note
   pieceNotes stop = []
   pieceNotes (single {c = c} f g p) = own δ c ∷ pieceNotes p
-  pieceNotes (double {c = c} {d = d} q p) = span c d ∷ pieceNotes p
+  pieceNotes (double {c = c} {d = d} q p) = span δ c d ∷ pieceNotes p
 
 pub pieces-notes : (H : Header) {cs : List Cell} (p : Pieced (H .delta) cs) (held : Bool) → map (λ (p : Piece). p .note) (pieces H held cs) ≡ pieceNotes (H .delta) p
 unfolding own
@@ -68,10 +63,6 @@ pieces-notes H (double {c = c} {d = d} {cs = cs} q p) held =
     rw (step-fill H c d cs held (pair-fills (H .delta) c d q) (q .opens) (pair-close (H .delta) c d q)) (ap (_∷_ (span (H .delta) c d)) (pieces-notes H p (boundNext H d cs)))
 
 -- ---- from cells to pieces
-
--- The order of pieces depends on δ only: `Order`'s laws are used at ε = 0.
-abbrev plain : ℕ → Header
-plain δ = record { delta = δ; epsilon = 0; shelves = 0; words = 0 }
 
 module _ (δ beats : ℕ) (z : 0 < δ) where
   -- what starts at or behind a note's end, in its lane or above, follows it
@@ -85,19 +76,19 @@ module _ (δ beats : ℕ) (z : 0 < δ) where
   unfolding own
   pieces-follow m R h stop k a = tt
   pieces-follow m R h (single {c = e} f g p) k a =
-      let s = h e (first-from (plain δ) beats z (omega arith) (single f g p) (k .0)) (a .0) in
+      let s = h e (first-from δ beats z (single f g p) (k .0)) (a .0) in
       (gap-follow m (own δ e) (s .0) (s .1), pieces-follow m R h p (k .1) (a .1))
   pieces-follow m R h (double {c = e} {d = d} q p) k a =
-      let s = h e (first-from (plain δ) beats z (omega arith) (double q p) (k .0)) (a .0) in
+      let s = h e (first-from δ beats z (double q p) (k .0)) (a .0) in
       (gap-follow m (span δ e d) (s .0) (s .1), pieces-follow m R h p (k .1 .1) (a .1 .1))
 
   pub cells-follow : {cs : List Cell} (p : Pieced δ cs) → All (Fine δ beats) cs → Pairs (Apart δ) cs → Pairs Follow (pieceNotes δ p)
   unfolding own
   cells-follow stop k a = tt
   cells-follow (single {c = c} f g p) k a =
-      (pieces-follow (own δ c) (Apart δ c) (λ e s b. single-gap (plain δ) beats z (omega arith) c e f g (k .0) s b) p (k .1) (a .0), cells-follow p (k .1) (a .1))
+      (pieces-follow (own δ c) (Apart δ c) (λ e s b. single-gap δ beats z c e f g (k .0) s b) p (k .1) (a .0), cells-follow p (k .1) (a .1))
   cells-follow (double {c = c} {d = d} q p) k a =
-      (pieces-follow (span δ c d) (Apart δ d) (λ e s b. double-gap (plain δ) beats z (omega arith) c d e q (k .0) s b) p (k .1 .1) (a .1 .0), cells-follow p (k .1 .1) (a .1 .1))
+      (pieces-follow (span δ c d) (Apart δ d) (λ e s b. double-gap δ beats z c d e q (k .0) s b) p (k .1 .1) (a .1 .0), cells-follow p (k .1 .1) (a .1 .1))
 
 -- ---- an inner note and pieces
 
@@ -105,9 +96,9 @@ module _ (δ : ℕ) (n : Note) (v : n .start < n .end) (low : firstBeat δ n * �
   pub clear-away : (beats : ℕ) → 0 < δ → {cs : List Cell} (p : Pieced δ cs) → All (Fine δ beats) cs → All (Clear δ n) cs → All (Away n) (pieceNotes δ p)
   clear-away beats z stop k a = tt
   clear-away beats z (single {c = c} f g p) k a =
-      (away-single (plain δ) beats z (omega arith) n v (omega arith) (omega arith) c f g (k .0) (a .0), clear-away beats z p (k .1) (a .1))
+      (away-single δ beats z n v (omega arith) (omega arith) c f g (k .0) (a .0), clear-away beats z p (k .1) (a .1))
   clear-away beats z (double {c = c} {d = d} q p) k a =
-      (away-double (plain δ) beats z (omega arith) n v (omega arith) (omega arith) c d q (k .0) (a .0), clear-away beats z p (k .1 .1) (a .1 .1))
+      (away-double δ beats z n v (omega arith) (omega arith) c d q (k .0) (a .0), clear-away beats z p (k .1 .1) (a .1 .1))
 
   -- and back: from a cell's own piece
   own-clear : (c : Cell) → Away n (own δ c) → Clear δ n c

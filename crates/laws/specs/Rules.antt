@@ -11,6 +11,7 @@ use Rattle.model.specs.Binding.{Piece, addCell, bound, boundNext, endOf, fills,
 use Rattle.model.specs.Soundness.{filled}
 use Rattle.model.specs.declared.Cell.{Cell}
 use Rattle.model.specs.declared.Header.{Header}
+use Rattle.model.specs.declared.Note.{Note}
 use Rattle.laws.specs.Booleans.{and-left, and-right, and-yes, mid, or-false, or-left, or-right}
 
 -- ---- single rules
@@ -102,6 +103,15 @@ module _ (δ : ℕ) (c d : Cell) (q : Pair δ c d) where
   pub pair-filled : filled δ d ≡ true
   unfolding filled
   pair-filled = let b : d .before ≡ c .before + δ = q .before-is in rw pair-close (le-leb δ (d .before) (omega arith))
+
+-- A cell's own piece.
+unfoldable pub own : ℕ → Cell → Note
+unfolding startOf endOf
+own δ c = record { lane = c .lane; start = startOf δ c; end = endOf δ c; velocity = c .velocity }
+
+-- The piece of two cells.
+abbrev pub span : ℕ → Cell → Cell → Note
+span δ c d = record { lane = c .lane; start = startOf δ c; end = endOf δ d; velocity = c .velocity }
 
 -- ---- the first piece of cells
 
