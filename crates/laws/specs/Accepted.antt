@@ -64,7 +64,7 @@ pub record JoinFacts (H : Header) (s : List ℕ) (i j k : ℕ) : Type 0 where
   pub short : (takeAt H s i) .beats + (takeAt H s j) .beats ≤ 4096
   pub fit : fits H (joinTakes (H .delta) (takeAt H s i) (takeAt H s j)) ≡ true
 
-below : (H : Header) (c : Call) → shelvesOk H c ≡ true → All (λ i. i < H .shelves) (reads c ++ writes c)
+pub below : (H : Header) (c : Call) → shelvesOk H c ≡ true → All (λ i. i < H .shelves) (reads c ++ writes c)
 unfolding shelvesOk
 below H c e = all-imp (λ i. ltb i (H .shelves) ≡ true) (λ i. i < H .shelves) (reads c ++ writes c) (λ i. ltb-true i (H .shelves)) (every-all (λ i. ltb i (H .shelves)) (reads c ++ writes c) e)
 

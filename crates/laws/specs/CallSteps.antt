@@ -59,7 +59,7 @@ open-step s H e =
       words-are = fresh-for H (r .room);
     }
 
-history-beats : (δ : ℕ) (recordings : List Recording) (pairs : List (ℕ × ℕ)) → (historyTake δ recordings pairs) .beats ≡ length pairs
+pub history-beats : (δ : ℕ) (recordings : List Recording) (pairs : List (ℕ × ℕ)) → (historyTake δ recordings pairs) .beats ≡ length pairs
 unfolding historyTake
 history-beats δ recordings pairs = refl
 
@@ -67,7 +67,7 @@ named-pairs : (n r k b : ℕ) → r < n → All (λ (p : ℕ × ℕ). p .0 < n) 
 named-pairs n r zero b h = tt
 named-pairs n r (suc k) b h = (h, named-pairs n r k (suc b) h)
 
-header-for : (m : Machine) → headerOf (sessionFor m) ≡ m .header
+pub header-for : (m : Machine) → headerOf (sessionFor m) ≡ m .header
 unfolding sessionFor
 header-for m = header-of (m .header) (shelvesOf m)
 

@@ -125,9 +125,9 @@ module _ (H : Header) (z : 0 < (H .delta)) (le : (H .epsilon) ≤ (H .delta)) (t
       (rw (solid-line H z t s) (same-words (gather noteWords (lineNotes H (t .cells)))))
 
   -- the words of a solid take that fits are a sound shelf
-  pub solid-sound : t .beats ≤ 4096 → fits H t ≡ true → chainShelf H (wordsOf H t) ≡ true
+  pub solid-chain : t .beats ≤ 4096 → fits H t ≡ true → chainShelf H (wordsOf H t) ≡ true
   unfolding wordsOf fits
-  solid-sound b f = parts-shelf H (t .beats) (notesOf H t) (t .cells) b (leb-true (3 + 4 * length (notesOf H t) + 6 * length (t .cells)) (H .words) f) solid-parts
+  solid-chain b f = parts-shelf H (t .beats) (notesOf H t) (t .cells) b (leb-true (3 + 4 * length (notesOf H t) + 6 * length (t .cells)) (H .words) f) solid-parts
 
 -- ---- the parts of the test
 
@@ -342,9 +342,9 @@ module _ (δ : ℕ) where
 -- ---- the take
 
 -- a sound shelf's take is solid
-pub sound-solid : (H : Header) → 0 < (H .delta) → (ws : List ℕ) → chainShelf H ws ≡ true → Solid (H .delta) (takeIn (H .delta) ws)
+pub chain-solid : (H : Header) → 0 < (H .delta) → (ws : List ℕ) → chainShelf H ws ≡ true → Solid (H .delta) (takeIn (H .delta) ws)
 unfolding takeIn
-sound-solid H z ws e =
+chain-solid H z ws e =
     let p : Parts H ws = parts H ws e in
     let notes = readNotes (word ws 1) (drop 3 ws) in
     let cells = readCells (word ws 2) (drop (3 + 4 * word ws 1) ws) in
@@ -361,9 +361,9 @@ sound-solid H z ws e =
     }
 
 -- the notes of a sound shelf are its take's
-pub sound-notes : (H : Header) → 0 < (H .delta) → (ws : List ℕ) → chainShelf H ws ≡ true → notesOf H (takeIn (H .delta) ws) ≡ readNotes (word ws 1) (drop 3 ws)
+pub chain-notes : (H : Header) → 0 < (H .delta) → (ws : List ℕ) → chainShelf H ws ≡ true → notesOf H (takeIn (H .delta) ws) ≡ readNotes (word ws 1) (drop 3 ws)
 unfolding takeIn notesOf
-sound-notes H z ws e =
+chain-notes H z ws e =
     let p : Parts H ws = parts H ws e in
     let notes = readNotes (word ws 1) (drop 3 ws) in
     let cells = readCells (word ws 2) (drop (3 + 4 * word ws 1) ws) in
@@ -371,11 +371,11 @@ sound-notes H z ws e =
     ∙ merge-parts (inside (H .delta)) notes (ok-sorted (H .delta) (word ws 0) notes (p .notes-ok))
 
 -- a sound shelf's words are those of its take
-pub words-again : (H : Header) → 0 < (H .delta) → (ws : List ℕ) → length ws ≡ (H .words) → chainShelf H ws ≡ true → wordsOf H (takeIn (H .delta) ws) ≡ ws
+pub chain-words : (H : Header) → 0 < (H .delta) → (ws : List ℕ) → length ws ≡ (H .words) → chainShelf H ws ≡ true → wordsOf H (takeIn (H .delta) ws) ≡ ws
 unfolding wordsOf
-words-again H z ws n e =
+chain-words H z ws n e =
     let p : Parts H ws = parts H ws e in
-    ap (λ (ns : List Note). shelfWords (H .words) ((takeIn (H .delta) ws) .beats) ns ((takeIn (H .delta) ws) .cells)) (sound-notes H z ws e)
+    ap (λ (ns : List Note). shelfWords (H .words) ((takeIn (H .delta) ws) .beats) ns ((takeIn (H .delta) ws) .cells)) (chain-notes H z ws e)
     ∙ (unfold takeIn in shelf-back (H .words) ws n (p .used-ok) (p .zeros-ok))
 
 -- ---- what the code of question 4 may use once ranges and order are known

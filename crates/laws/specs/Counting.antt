@@ -13,13 +13,12 @@ use Rattle.model.specs.Binding.{bound, boundNext, fills, goOn, lineNotes, meet,
 use Rattle.model.specs.Lists.{consIf, keep}
 use Rattle.model.specs.Pieces.{firstBeat}
 use Rattle.model.specs.Questions.{fits}
+use Rattle.model.specs.Soundness.{soundShelf}
 use Rattle.model.specs.Takes.{Take, cellTo, leftOf, noteTo, notesOf, rightOf, splitLeft, splitRight, takeIn, word}
 use Rattle.model.specs.declared.Cell.{Cell}
 use Rattle.model.specs.declared.Header.{Header}
 use Rattle.model.specs.declared.Note.{Note}
 use Rattle.laws.specs.Booleans.{and-left, and-right, and-yes, or-right}
-use Rattle.laws.specs.Chain.{chainShelf}
-use Rattle.laws.specs.ChainSolid.{Parts, parts, sound-notes, sound-solid}
 use Rattle.laws.specs.Lists.{length-keep, length-map}
 use Rattle.laws.specs.Merging.{length-merge}
 use Rattle.laws.specs.Moving.{solid-left, solid-right}
@@ -27,6 +26,7 @@ use Rattle.laws.specs.Reading.{length-cells, length-read}
 use Rattle.laws.specs.Relations.{All, Pairs, all-imp, all-keep, all-kept}
 use Rattle.laws.specs.Rules.{Pair, Pieced, double, own, single, span, stop}
 use Rattle.laws.specs.Solid.{Apart, Solid, beat-up, lane-up, side-up}
+use Rattle.laws.specs.Sound.{sound-notes, sound-solid, sound-used}
 use Rattle.laws.specs.Walk.{line-walk, linked, walk, walk-double, walk-single}
 
 -- ---- how many notes a piece adds
@@ -364,13 +364,12 @@ less-fits H t u l e =
     let b = l .fewer-cells in
     le-leb (3 + 4 * length (notesOf H t) + 6 * length (t .cells)) (H .words) (omega arith)
 
-module _ (H : Header) (z : 0 < (H .delta)) (le : (H .epsilon) ≤ (H .delta)) (ws : List ℕ) (e : chainShelf H ws ≡ true) where
+module _ (H : Header) (z : 0 < (H .delta)) (le : (H .epsilon) ≤ (H .delta)) (ws : List ℕ) (e : soundShelf H ws ≡ true) where
   -- a sound shelf's take fits
   pub sound-fits : fits H (takeIn (H .delta) ws) ≡ true
   unfolding fits
   sound-fits =
-      let p : Parts H ws = parts H ws e in
-      let u : 3 + 4 * word ws 1 + 6 * word ws 2 ≤ (H .words) = p .used-ok in
+      let u : 3 + 4 * word ws 1 + 6 * word ws 2 ≤ (H .words) = sound-used H z ws e in
       let a : length (notesOf H (takeIn (H .delta) ws)) ≡ word ws 1 = ap length (sound-notes H z ws e) ∙ length-read (word ws 1) (drop 3 ws) in
       let b : length ((takeIn (H .delta) ws) .cells) ≡ word ws 2 = unfold takeIn in length-cells (word ws 2) (drop (3 + 4 * word ws 1) ws) in
       le-leb (3 + 4 * length (notesOf H (takeIn (H .delta) ws)) + 6 * length ((takeIn (H .delta) ws) .cells)) (H .words) (omega arith)

@@ -23,6 +23,7 @@ pub mod ChainSolid
 pub mod Overlap
 pub mod Partners
 pub mod Clauses
+pub mod Sound
 pub mod Reversal
 pub mod Counting
 pub mod Sessions
@@ -30,5 +31,6 @@ pub mod Steps
 pub mod Accepted
 pub mod CallSteps
 pub mod Claim
+pub mod Reached
 pub mod Sweep
 pub mod Joining
