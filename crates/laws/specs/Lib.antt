@@ -33,4 +33,5 @@ pub mod CallSteps
 pub mod Claim
 pub mod Reached
 pub mod Sweep
+pub mod Linear
 pub mod Joining
