@@ -90,7 +90,8 @@ module _ (m : Machine) (k : Kept m) where
   own-pairs i r v new e = lay (m .header .delta) (positive-delta m k) new i r (unfold takeOf in ap (recordingTake (m .header .delta)) e) (v .0) (v .1)
 
   -- a recording laid
-  pub record-step : (i : ℕ) (r : Recording) → i < m .header .shelves → Valid (m .header .delta) r → fits (m .header) (recordingTake (m .header .delta) r) ≡ true
+  pub record-step : (i : ℕ) (r : Recording) → i < m .header .shelves → Valid (m .header .delta) r
+      → fits (m .header) (recordingTake (m .header .delta) r) ≡ true
       → Step (recorded m i r) (putAll (m .header) (sessionFor m) ((i, recordingTake (m .header .delta) r) ∷ []))
   record-step i r b v f =
       let n = length (m .recordings) in
@@ -119,14 +120,16 @@ module _ (m : Machine) (k : Kept m) where
       step-as p q (record-step i r (a .shelf-below) (a .valid) (a .fit))
 
   -- a part of a history is in order, if its take fits
-  part-ok : (pairs part : List (ℕ × ℕ)) → HistoryOk (m .header) (m .recordings) pairs → All (λ (p : ℕ × ℕ). p .0 < length (m .recordings)) part → length part ≤ length pairs
+  part-ok : (pairs part : List (ℕ × ℕ)) → HistoryOk (m .header) (m .recordings) pairs → All (λ (p : ℕ × ℕ). p .0 < length (m .recordings)) part
+      → length part ≤ length pairs
       → fits (m .header) (historyTake (m .header .delta) (m .recordings) part) ≡ true → HistoryOk (m .header) (m .recordings) part
   part-ok pairs part o n l f = let b : length pairs ≤ 4096 = o .short in record { named = n; short = omega arith; fit = f }
 
   pub history-ok : (i : ℕ) → i < m .header .shelves → HistoryOk (m .header) (m .recordings) (history m i)
   history-ok i b = all-at (HistoryOk (m .header) (m .recordings)) (m .histories) i [] (k .histories-ok) (let c : length (m .histories) ≡ m .header .shelves = k .count in omega arith)
 
-  pub split-step : (i n l r : ℕ) → number (sessionFor m) (splitCall i n l r) ≡ 0 → Step (accepted m (splitCall i n l r)) (written (sessionFor m) (splitCall i n l r))
+  pub split-step : (i n l r : ℕ) → number (sessionFor m) (splitCall i n l r) ≡ 0
+      → Step (accepted m (splitCall i n l r)) (written (sessionFor m) (splitCall i n l r))
   split-step i n l r e =
       let s = sessionFor m in
       let H = m .header in
@@ -146,7 +149,8 @@ module _ (m : Machine) (k : Kept m) where
       unfold written results in ap (λ (h : Header). putAll h s ((l, splitLeft (h .delta) n (takeAt h s i)) ∷ (r, splitRight (h .delta) n (takeAt h s i)) ∷ [])) (header-for m) in
       step-as p q (edit-step m k R no-more rs ((l, take n g) ∷ (r, drop n g) ∷ []) (ap₂ (λ (u v : Take). (l, u) ∷ (r, v) ∷ []) x y) ((a .left-below, ox), ((a .right-below, oy), tt)))
 
-  pub join-step : (i j n : ℕ) → number (sessionFor m) (joinCall i j n) ≡ 0 → Step (accepted m (joinCall i j n)) (written (sessionFor m) (joinCall i j n))
+  pub join-step : (i j n : ℕ) → number (sessionFor m) (joinCall i j n) ≡ 0
+      → Step (accepted m (joinCall i j n)) (written (sessionFor m) (joinCall i j n))
   join-step i j n e =
       let s = sessionFor m in
       let H = m .header in

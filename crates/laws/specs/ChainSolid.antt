@@ -3,7 +3,6 @@
 use mathlib.Core.Bool.{Bool, _&&_, _||_, cond, false, not, true, true≢false}
 use mathlib.Core.List.{List, [], _++_, _∷_}
 use mathlib.Core.Logic.{_≢_}
-use mathlib.Core.Option.{none}
 use mathlib.Core.Path.{_∙_, _≡_, ap, refl, sym}
 use Prim.Native.Nat.{_*_, _+_, _-_, _<_, _≤_, suc, ℕ}
 use native.Mathlib.Omega.{arith}
@@ -29,7 +28,6 @@ use Rattle.laws.specs.Reading.{notes-same, past-all, past-head, read-cel
 use Rattle.laws.specs.Relations.{All, Pairs, all-imp, all-keep, all-kept, every-all, every-yes, pairs-keep}
 use Rattle.laws.specs.Rules.{Pair, Pieced, double, not-open, pair-close, pair-fills, pair-open, single, stop}
 use Rattle.laws.specs.Solid.{Apart, Clear, Fine, Solid, beat-up, fine, fine-memory, fine-range, fine-ticks, lane-up, side-up}
-use Rattle.laws.specs.Walk.{line-from, walkFrom}
 
 -- ---- cells
 
@@ -97,7 +95,8 @@ module _ (δ : ℕ) where
       go true true true a b e = le-leb (c .beat * δ + c .after) (n .start) (w .behind (eqb-true (n .lane) (c .lane) a) (eqb-true (firstBeat δ n) (c .beat) b) e)
       go true true false a b e = le-leb (n .end + c .before) (suc (c .beat) * δ) (w .before (eqb-true (n .lane) (c .lane) a) (eqb-true (firstBeat δ n) (c .beat) b) e)
 
-pub parts-shelf : (H : Header) (beats : ℕ) (ns : List Note) (cs : List Cell) → beats ≤ 4096 → 3 + 4 * length ns + 6 * length cs ≤ (H .words) → chainTake H beats ns cs ≡ true
+pub parts-shelf : (H : Header) (beats : ℕ) (ns : List Note) (cs : List Cell) → beats ≤ 4096 → 3 + 4 * length ns + 6 * length cs ≤ (H .words)
+    → chainTake H beats ns cs ≡ true
     → chainShelf H (shelfWords (H .words) beats ns cs) ≡ true
 unfolding chainShelf layoutOk shelfWords
 parts-shelf H beats ns cs b f e =
@@ -213,7 +212,8 @@ module _ (δ : ℕ) where
   unfolding neighbours
   near-before c d e = and-left (cellBefore c d) _ e
 
-  near-next : (c d : Cell) → neighbours δ c d ≡ true → cond (fills δ c || filled δ d) (partners δ c d) (not (sameBeat c d) || leb (c .after + d .before) δ) ≡ true
+  near-next : (c d : Cell) → neighbours δ c d ≡ true
+      → cond (fills δ c || filled δ d) (partners δ c d) (not (sameBeat c d) || leb (c .after + d .before) δ) ≡ true
   unfolding neighbours
   near-next c d e = and-right (cellBefore c d) _ e
 
@@ -232,7 +232,8 @@ module _ (δ : ℕ) where
   not-filled : (c d : Cell) → neighbours δ c d ≡ true → fills δ c ≡ false → filled δ d ≡ false
   not-filled c d e f = go (fills δ c) (filled δ d) f refl (near-next c d e)
     where
-      go : (a b : Bool) → a ≡ false → filled δ d ≡ b → cond (a || b) (partners δ c d) (not (sameBeat c d) || leb (c .after + d .before) δ) ≡ true → b ≡ false
+      go : (a b : Bool) → a ≡ false → filled δ d ≡ b → cond (a || b) (partners δ c d) (not (sameBeat c d) || leb (c .after + d .before) δ) ≡ true
+          → b ≡ false
       go true b p q r = absurd (true≢false p)
       go false true p q r = absurd (true≢false (sym (partners-fills c d r) ∙ f))
       go false false p q r = refl
@@ -240,7 +241,8 @@ module _ (δ : ℕ) where
   near-pair : (c d : Cell) → c .side ≤ 1 → d .side ≤ 1 → neighbours δ c d ≡ true → fills δ c ≡ true → Pair δ c d
   near-pair c d s t e f = pair-of c d s t (go (fills δ c) f (near-next c d e))
     where
-      go : (a : Bool) → a ≡ true → cond (a || filled δ d) (partners δ c d) (not (sameBeat c d) || leb (c .after + d .before) δ) ≡ true → partners δ c d ≡ true
+      go : (a : Bool) → a ≡ true → cond (a || filled δ d) (partners δ c d) (not (sameBeat c d) || leb (c .after + d .before) δ) ≡ true
+          → partners δ c d ≡ true
       go true p r = r
       go false p r = absurd (true≢false (sym p))
 
@@ -254,14 +256,16 @@ module _ (δ : ℕ) where
   unfolding cellBefore
   near-apart c d s t e = go (ltb (c .lane) (d .lane)) refl (near-before c d e)
     where
-      deep : c .lane ≡ d .lane → (b : Bool) → ltb (c .beat) (d .beat) ≡ b → b || eqb (c .beat) (d .beat) && ltb (c .side) (d .side) ≡ true → Apart δ c d
+      deep : c .lane ≡ d .lane → (b : Bool) → ltb (c .beat) (d .beat) ≡ b → b || eqb (c .beat) (d .beat) && ltb (c .side) (d .side) ≡ true
+          → Apart δ c d
       deep l true p q = beat-up l (ltb-true (c .beat) (d .beat) p)
       deep l false p q =
           let b : c .beat ≡ d .beat = eqb-true (c .beat) (d .beat) (and-left (eqb (c .beat) (d .beat)) _ q) in
           let u : c .side < d .side = ltb-true (c .side) (d .side) (and-right (eqb (c .beat) (d .beat)) _ q) in
           side-up l b (omega arith) (omega arith) (near-gap c d e l b)
 
-      go : (a : Bool) → ltb (c .lane) (d .lane) ≡ a → a || eqb (c .lane) (d .lane) && (ltb (c .beat) (d .beat) || eqb (c .beat) (d .beat) && ltb (c .side) (d .side)) ≡ true → Apart δ c d
+      go : (a : Bool) → ltb (c .lane) (d .lane) ≡ a
+          → a || eqb (c .lane) (d .lane) && (ltb (c .beat) (d .beat) || eqb (c .beat) (d .beat) && ltb (c .side) (d .side)) ≡ true → Apart δ c d
       go true p q = lane-up (ltb-true (c .lane) (d .lane) p)
       go false p q = deep (eqb-true (c .lane) (d .lane) (and-left (eqb (c .lane) (d .lane)) _ q)) (ltb (c .beat) (d .beat)) refl (and-right (eqb (c .lane) (d .lane)) _ q)
 
@@ -300,7 +304,8 @@ module _ (δ : ℕ) where
         let r : Pairs (Apart δ) (d ∷ ds) = chain-pairs d ds (k .0) (k .1) (chain-more c d ds e) in
         ((a, all-imp (Apart δ d) (Apart δ c) ds (λ x b. apart-trans c d x a b) (r .0)), r)
 
-    chain-pieced : (c : Cell) (cs : List Cell) → Fine δ beats c → All (Fine δ beats) cs → filled δ c ≡ false → cellsChain δ c cs ≡ true → Pieced δ (c ∷ cs)
+    chain-pieced : (c : Cell) (cs : List Cell) → Fine δ beats c → All (Fine δ beats) cs → filled δ c ≡ false → cellsChain δ c cs ≡ true
+        → Pieced δ (c ∷ cs)
     chain-pieced c [] f k g e = single (chain-last c e) g stop
     chain-pieced c (d ∷ []) f k g e = go (fills δ c) refl (λ h. chain-pieced d [] (k .0) tt h (chain-more c d [] e))
       where
@@ -311,7 +316,8 @@ module _ (δ : ℕ) where
         go (fills δ c) refl (λ h. chain-pieced d (x ∷ xs) (k .0) (k .1) h (chain-more c d (x ∷ xs) e))
         (λ h. chain-pieced x xs (k .1 .0) (k .1 .1) h (chain-more d x xs (chain-more c d (x ∷ xs) e)))
       where
-        go : (b : Bool) → fills δ c ≡ b → (filled δ d ≡ false → Pieced δ (d ∷ x ∷ xs)) → (filled δ x ≡ false → Pieced δ (x ∷ xs)) → Pieced δ (c ∷ d ∷ x ∷ xs)
+        go : (b : Bool) → fills δ c ≡ b → (filled δ d ≡ false → Pieced δ (d ∷ x ∷ xs)) → (filled δ x ≡ false → Pieced δ (x ∷ xs))
+            → Pieced δ (c ∷ d ∷ x ∷ xs)
         go true p r q =
             let w : Pair δ c d = near-pair c d (f .side-below) (k .0 .side-below) (chain-first c d (x ∷ xs) e) p in
             let o : d .side ≡ 1 = w .closes in
@@ -361,7 +367,8 @@ chain-solid H z ws e =
     }
 
 -- the notes of a sound shelf are its take's
-pub chain-notes : (H : Header) → 0 < (H .delta) → (ws : List ℕ) → chainShelf H ws ≡ true → notesOf H (takeIn (H .delta) ws) ≡ readNotes (word ws 1) (drop 3 ws)
+pub chain-notes : (H : Header) → 0 < (H .delta) → (ws : List ℕ) → chainShelf H ws ≡ true
+    → notesOf H (takeIn (H .delta) ws) ≡ readNotes (word ws 1) (drop 3 ws)
 unfolding takeIn notesOf
 chain-notes H z ws e =
     let p : Parts H ws = parts H ws e in
@@ -371,20 +378,10 @@ chain-notes H z ws e =
     ∙ merge-parts (inside (H .delta)) notes (ok-sorted (H .delta) (word ws 0) notes (p .notes-ok))
 
 -- a sound shelf's words are those of its take
-pub chain-words : (H : Header) → 0 < (H .delta) → (ws : List ℕ) → length ws ≡ (H .words) → chainShelf H ws ≡ true → wordsOf H (takeIn (H .delta) ws) ≡ ws
+pub chain-words : (H : Header) → 0 < (H .delta) → (ws : List ℕ) → length ws ≡ (H .words) → chainShelf H ws ≡ true
+    → wordsOf H (takeIn (H .delta) ws) ≡ ws
 unfolding wordsOf
 chain-words H z ws n e =
     let p : Parts H ws = parts H ws e in
     ap (λ (ns : List Note). shelfWords (H .words) ((takeIn (H .delta) ws) .beats) ns ((takeIn (H .delta) ws) .cells)) (chain-notes H z ws e)
     ∙ (unfold takeIn in shelf-back (H .words) ws n (p .used-ok) (p .zeros-ok))
-
--- ---- what the code of question 4 may use once ranges and order are known
-
--- the notes that the rules give from cells that passed, from left to right
-pub line-sound : (H : Header) (beats : ℕ) → (H .epsilon) ≤ (H .delta) → (cells : List Cell) → every (cellOk (H .delta) beats) cells ≡ true → cellsSound (H .delta) cells ≡ true → lineNotes H cells ≡ walkFrom H none cells
-line-sound H beats le cells e f =
-    line-from H le (sound-pieced (H .delta) beats cells (all-imp (λ c. cellOk (H .delta) beats c ≡ true) (Fine (H .delta) beats) cells (λ c. fine-of (H .delta) beats c) (every-all (cellOk (H .delta) beats) cells e)) f)
-
--- cells that passed lie apart
-pub cells-apart-of : (δ beats : ℕ) (cells : List Cell) → every (cellOk δ beats) cells ≡ true → cellsSound δ cells ≡ true → Pairs (Apart δ) cells
-cells-apart-of δ beats cells e f = sound-apart δ beats cells (all-imp (λ c. cellOk δ beats c ≡ true) (Fine δ beats) cells (λ c. fine-of δ beats c) (every-all (cellOk δ beats) cells e)) f

@@ -93,21 +93,24 @@ all-later (d ∷ ds) s m a =
     let n = fed m (d, number s d) in
     later-then m n (fedAll n (answered (after s d) ds)) (fed-later m d (number s d) (a .0)) (all-later ds (after s d) n (a .1))
 
-fed-append : (cs ds : List Call) (s : List ℕ) (m : Machine) → fedAll m (answered s (cs ++ ds)) ≡ fedAll (fedAll m (answered s cs)) (answered (afterAll s cs) ds)
+fed-append : (cs ds : List Call) (s : List ℕ) (m : Machine)
+    → fedAll m (answered s (cs ++ ds)) ≡ fedAll (fedAll m (answered s cs)) (answered (afterAll s cs) ds)
 unfolding fedAll answered afterAll
 fed-append [] ds s m = refl
 fed-append (c ∷ cs) ds s m = fed-append cs ds (after s c) (fed m (c, number s c))
 
 -- ---- the consequences
 
-given-same : (m n : Machine) (i j : ℕ) → Later m n → history m i ≡ history n j → All (λ (p : ℕ × ℕ). p .0 < length (m .recordings)) (history m i) → givenWords n j ≡ givenWords m i
+given-same : (m n : Machine) (i j : ℕ) → Later m n → history m i ≡ history n j → All (λ (p : ℕ × ℕ). p .0 < length (m .recordings)) (history m i)
+    → givenWords n j ≡ givenWords m i
 unfolding givenWords historyWords
 given-same m n i j l e w =
     ap₂ (λ (h : Header) (pairs : List (ℕ × ℕ)). wordsOf h (historyTake (h .delta) (n .recordings) pairs)) (l .header-same) (sym e)
     ∙ ap (λ (rs : List Recording). wordsOf (m .header) (historyTake (m .header .delta) rs (history m i))) (l .grew)
     ∙ ap (wordsOf (m .header)) (grow (m .header .delta) (m .recordings) (l .more) (history m i) w)
 
-given-take : (m : Machine) (i : ℕ) (t : Take) → historyTake (m .header .delta) (m .recordings) (history m i) ≡ t → givenWords m i ≡ wordsOf (m .header) t
+given-take : (m : Machine) (i : ℕ) (t : Take) → historyTake (m .header .delta) (m .recordings) (history m i) ≡ t
+    → givenWords m i ≡ wordsOf (m .header) t
 unfolding givenWords historyWords
 given-take m i t e = ap (wordsOf (m .header)) e
 
@@ -117,7 +120,8 @@ module _ (s : List ℕ) (H : Header) (o : number s (openCall H) ≡ 0) where
       subst (λ (n : Machine). Later (machineAfter s H o cs) n) (sym (fed-append cs ds (after s (openCall H)) (opened H))) (all-later ds (sessionAfter s H o cs) (machineAfter s H o cs) a)
 
   -- Two shelves of equal history hold equal words, at whatever two points of one list of edits they are read.
-  pub equal-histories : (cs ds : List Call) → All Edit ds → (i j : ℕ) → i < (machineAfter s H o cs) .header .shelves → j < (machineAfter s H o cs) .header .shelves
+  pub equal-histories : (cs ds : List Call) → All Edit ds → (i j : ℕ) → i < (machineAfter s H o cs) .header .shelves
+      → j < (machineAfter s H o cs) .header .shelves
       → history (machineAfter s H o cs) i ≡ history (machineAfter s H o (cs ++ ds)) j
       → shelf ((machineAfter s H o cs) .header) (sessionAfter s H o cs) i ≡ shelf ((machineAfter s H o cs) .header) (sessionAfter s H o (cs ++ ds)) j
   equal-histories cs ds a i j bi bj e =
@@ -132,8 +136,10 @@ module _ (s : List ℕ) (H : Header) (o : number s (openCall H) ≡ 0) where
       shelf-claim s H o cs i bi ∙ sym x ∙ sym (shelf-claim s H o (cs ++ ds) j b) ∙ ap (λ (x : Header). shelf x (sessionAfter s H o (cs ++ ds)) j) h
 
   -- A shelf whose history is all the beats of one recording in their order is that recording again: exactly its notes and all its cells.
-  pub recording-again : (cs : List Call) (i r : ℕ) (R : Recording) → i < (machineAfter s H o cs) .header .shelves → r < length ((machineAfter s H o cs) .recordings)
-      → getD ((machineAfter s H o cs) .recordings) r (record { beats = 0; notes = [] }) ≡ R → history (machineAfter s H o cs) i ≡ pairsOf r (R .beats) 0
+  pub recording-again : (cs : List Call) (i r : ℕ) (R : Recording) → i < (machineAfter s H o cs) .header .shelves
+      → r < length ((machineAfter s H o cs) .recordings)
+      → getD ((machineAfter s H o cs) .recordings) r (record { beats = 0; notes = [] }) ≡ R
+      → history (machineAfter s H o cs) i ≡ pairsOf r (R .beats) 0
       → shelf ((machineAfter s H o cs) .header) (sessionAfter s H o cs) i
       ≡ shelfWords ((machineAfter s H o cs) .header .words) (R .beats) (R .notes) (gather (cellsOfNote ((machineAfter s H o cs) .header .delta)) (R .notes))
   recording-again cs i r R b c e h =

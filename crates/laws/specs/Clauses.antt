@@ -215,7 +215,8 @@ module _ (H : Header) (beats : ℕ) (notes : List Note) (cells : List Cell) wher
         (every-all (λ n. every (clear δ n) cells) inner (l .clear-ok)))
 
 -- a take is sound by the paper's clauses if and only if it is by neighbours
-pub clauses-chain : (H : Header) → 0 < H .delta → (beats : ℕ) (notes : List Note) (cells : List Cell) → soundTake H beats notes cells ≡ chainTake H beats notes cells
+pub clauses-chain : (H : Header) → 0 < H .delta → (beats : ℕ) (notes : List Note) (cells : List Cell)
+    → soundTake H beats notes cells ≡ chainTake H beats notes cells
 clauses-chain H z beats notes cells = both-yes (soundTake H beats notes cells) (chainTake H beats notes cells) to from
   where
     to : soundTake H beats notes cells ≡ true → chainTake H beats notes cells ≡ true

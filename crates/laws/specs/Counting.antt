@@ -37,7 +37,8 @@ count true shown (suc n) = suc n
 count false true n = suc n
 count false false n = n
 
-length-step : (p : Note) (ns : List Note) (on-it shown : Bool) → length (cond on-it (goOn p ns) (cond shown (p ∷ ns) ns)) ≡ count on-it shown (length ns)
+length-step : (p : Note) (ns : List Note) (on-it shown : Bool)
+    → length (cond on-it (goOn p ns) (cond shown (p ∷ ns) ns)) ≡ count on-it shown (length ns)
 unfolding count
 length-step p [] true shown = refl
 length-step p (n ∷ ns) true shown = refl
@@ -132,7 +133,8 @@ module _ (H : Header) (z : 0 < (H .delta)) (le : (H .epsilon) ≤ (H .delta)) (p
       no-meet c d x a (b .0) (m .closes-it) (m .lanes-meet) (m .opens-it) (m .next-beat)
 
   -- bound in the half: bound in the whole, to a kept cell
-  half-on : (c : Cell) (cs : List Cell) → All (Apart (H .delta) c) cs → Pairs (Apart (H .delta)) cs → boundNext H c (keep q cs) ≡ true → (boundNext H c cs ≡ true) × First true cs
+  half-on : (c : Cell) (cs : List Cell) → All (Apart (H .delta) c) cs → Pairs (Apart (H .delta)) cs → boundNext H c (keep q cs) ≡ true
+      → (boundNext H c cs ≡ true) × First true cs
   half-on c [] a s e = absurd (unfold boundNext in true≢false (sym e))
   half-on c (d ∷ ds) a s e = go (q d) refl e
     where
@@ -167,11 +169,13 @@ module _ (H : Header) (z : 0 < (H .delta)) (le : (H .epsilon) ≤ (H .delta)) (p
     strong : ((b : ℕ) → p (suc b) ≡ true → p b ≡ true) → First false cs → length (walk H false (keep q cs)) < length (walk H true cs)
 
   -- a kept piece in front: its last cell c, shown s in the half and t in the whole
-  kept-step : (c : Cell) (cs : List Cell) (s t : Bool) → q c ≡ true → All (Apart (H .delta) c) cs → Pairs (Apart (H .delta)) cs → Counts cs → (s ≡ true → t ≡ true)
+  kept-step : (c : Cell) (cs : List Cell) (s t : Bool) → q c ≡ true → All (Apart (H .delta) c) cs → Pairs (Apart (H .delta)) cs → Counts cs
+      → (s ≡ true → t ≡ true)
       → count (boundNext H c (keep q cs)) s (length (walk H (boundNext H c (keep q cs)) (keep q cs))) ≤ count (boundNext H c cs) t (length (walk H (boundNext H c cs) cs))
   kept-step c cs s t k a r ih f = go (boundNext H c (keep q cs)) (boundNext H c cs) refl refl
     where
-      go : (x y : Bool) → boundNext H c (keep q cs) ≡ x → boundNext H c cs ≡ y → count x s (length (walk H x (keep q cs))) ≤ count y t (length (walk H y cs))
+      go : (x y : Bool) → boundNext H c (keep q cs) ≡ x → boundNext H c cs ≡ y
+          → count x s (length (walk H x (keep q cs))) ≤ count y t (length (walk H y cs))
       go true true e g = count-on s t (length (walk H true (keep q cs))) (length (walk H true cs)) (ih .weak true true (λ h. h) (λ h. (half-on c cs a r e) .1))
       go true false e g = absurd (true≢false (sym ((half-on c cs a r e) .0) ∙ g))
       go false true e g = count-lost s t (length (walk H false (keep q cs))) (length (walk H true cs)) (by edge)
@@ -182,7 +186,8 @@ module _ (H : Header) (z : 0 < (H .delta)) (le : (H .epsilon) ≤ (H .delta)) (p
       go false false e g = count-off s t (length (walk H false (keep q cs))) (length (walk H false cs)) f (ih .weak false false (λ h. h) (λ h. absurd (true≢false (sym h))))
 
   -- a dropped piece in front
-  drop-step : (c : Cell) (cs : List Cell) (t : Bool) → Counts cs → length (walk H false (keep q cs)) ≤ count (boundNext H c cs) t (length (walk H (boundNext H c cs) cs))
+  drop-step : (c : Cell) (cs : List Cell) (t : Bool) → Counts cs
+      → length (walk H false (keep q cs)) ≤ count (boundNext H c cs) t (length (walk H (boundNext H c cs) cs))
   drop-step c cs t ih =
       count-more (boundNext H c cs) t (length (walk H false (keep q cs))) (length (walk H (boundNext H c cs) cs)) (ih .weak false (boundNext H c cs) (λ h. absurd (true≢false (sym h))) (λ h. absurd (true≢false (sym h))))
 
@@ -196,10 +201,12 @@ module _ (H : Header) (z : 0 < (H .delta)) (le : (H .epsilon) ≤ (H .delta)) (p
   or-mono true l m f e = refl
   or-mono false l m f e = f e
 
-  length-single : (c : Cell) (cs : List Cell) (held : Bool) → fills (H .delta) c ≡ false → length (walk H held (c ∷ cs)) ≡ count (boundNext H c cs) (standsAlone H c || held) (length (walk H (boundNext H c cs) cs))
+  length-single : (c : Cell) (cs : List Cell) (held : Bool) → fills (H .delta) c ≡ false
+      → length (walk H held (c ∷ cs)) ≡ count (boundNext H c cs) (standsAlone H c || held) (length (walk H (boundNext H c cs) cs))
   length-single c cs held f = ap length (walk-single H c cs held f) ∙ length-step (own (H .delta) c) (walk H (boundNext H c cs) cs) (boundNext H c cs) (standsAlone H c || held)
 
-  length-double : (c d : Cell) (cs : List Cell) (held : Bool) → Pair (H .delta) c d → length (walk H held (c ∷ d ∷ cs)) ≡ count (boundNext H d cs) true (length (walk H (boundNext H d cs) cs))
+  length-double : (c d : Cell) (cs : List Cell) (held : Bool) → Pair (H .delta) c d
+      → length (walk H held (c ∷ d ∷ cs)) ≡ count (boundNext H d cs) true (length (walk H (boundNext H d cs) cs))
   length-double c d cs held w = ap length (walk-double H c d cs held w) ∙ length-step (span (H .delta) c d) (walk H (boundNext H d cs) cs) (boundNext H d cs) true
 
   counts-single : (c : Cell) (cs : List Cell) → fills (H .delta) c ≡ false → Pairs (Apart (H .delta)) (c ∷ cs) → Counts cs → Counts (c ∷ cs)
@@ -212,7 +219,8 @@ module _ (H : Header) (z : 0 < (H .delta)) (le : (H .epsilon) ≤ (H .delta)) (p
           go true e = rw (length-single c (keep q cs) l f, length-single c cs m f) (kept-step c cs (standsAlone H c || l) (standsAlone H c || m) e (s .0) (s .1) ih (or-mono (standsAlone H c) l m h))
           go false e = rw (length-single c cs m f) (low l k)
             where
-              low : (l : Bool) → (l ≡ true → q c ≡ true) → length (walk H l (keep q cs)) ≤ count (boundNext H c cs) (standsAlone H c || m) (length (walk H (boundNext H c cs) cs))
+              low : (l : Bool) → (l ≡ true → q c ≡ true)
+                  → length (walk H l (keep q cs)) ≤ count (boundNext H c cs) (standsAlone H c || m) (length (walk H (boundNext H c cs) cs))
               low true j = absurd (true≢false (sym (j refl) ∙ e))
               low false j = drop-step c cs (standsAlone H c || m) ih
 
@@ -225,18 +233,21 @@ module _ (H : Header) (z : 0 < (H .delta)) (le : (H .epsilon) ≤ (H .delta)) (p
       same : q d ≡ q c
       same = ap p (w .beat-same)
 
-      weak-two : (l m : Bool) → (l ≡ true → m ≡ true) → (l ≡ true → q c ≡ true) → length (walk H l (keep q (c ∷ d ∷ cs))) ≤ length (walk H m (c ∷ d ∷ cs))
+      weak-two : (l m : Bool) → (l ≡ true → m ≡ true) → (l ≡ true → q c ≡ true)
+          → length (walk H l (keep q (c ∷ d ∷ cs))) ≤ length (walk H m (c ∷ d ∷ cs))
       weak-two l m h k = rw same (go (q c) refl)
         where
           go : (b : Bool) → q c ≡ b → length (walk H l (consIf b c (consIf b d (keep q cs)))) ≤ length (walk H m (c ∷ d ∷ cs))
           go true e = rw (length-double c d (keep q cs) l w, length-double c d cs m w) (kept-step d cs true true (same ∙ e) (s .1 .0) (s .1 .1) ih (λ j. j))
           go false e = rw (length-double c d cs m w) (low l k)
             where
-              low : (l : Bool) → (l ≡ true → q c ≡ true) → length (walk H l (keep q cs)) ≤ count (boundNext H d cs) true (length (walk H (boundNext H d cs) cs))
+              low : (l : Bool) → (l ≡ true → q c ≡ true)
+                  → length (walk H l (keep q cs)) ≤ count (boundNext H d cs) true (length (walk H (boundNext H d cs) cs))
               low true j = absurd (true≢false (sym (j refl) ∙ e))
               low false j = drop-step d cs true ih
 
-      strong-two : ((b : ℕ) → p (suc b) ≡ true → p b ≡ true) → q c ≡ false → length (walk H false (keep q (c ∷ d ∷ cs))) < length (walk H true (c ∷ d ∷ cs))
+      strong-two : ((b : ℕ) → p (suc b) ≡ true → p b ≡ true) → q c ≡ false
+          → length (walk H false (keep q (c ∷ d ∷ cs))) < length (walk H true (c ∷ d ∷ cs))
       strong-two f k = rw (same, k, length-double c d cs true w) (strong-step d cs ih f (same ∙ k))
 
   counts : {cs : List Cell} → Pieced (H .delta) cs → Pairs (Apart (H .delta)) cs → Counts cs
@@ -273,7 +284,8 @@ module _ (H : Header) (k : ℕ) where
   unfolding linked fills
   link-back c cs a b = ap (λ (t : Bool). fills (H .delta) c || t) (bound-back c cs a b)
 
-  length-walk : (c : Cell) (cs : List Cell) (held : Bool) → length (walk H held (c ∷ cs)) ≡ count (linked H c cs) (standsAlone H c || held) (length (walk H (linked H c cs) cs))
+  length-walk : (c : Cell) (cs : List Cell) (held : Bool)
+      → length (walk H held (c ∷ cs)) ≡ count (linked H c cs) (standsAlone H c || held) (length (walk H (linked H c cs) cs))
   unfolding walk
   length-walk c cs held = length-step (own (H .delta) c) (walk H (linked H c cs) cs) (linked H c cs) (standsAlone H c || held)
 

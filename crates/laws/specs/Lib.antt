@@ -14,6 +14,7 @@ pub mod Order
 pub mod Lines
 pub mod OneNote
 pub mod Healing
+pub mod NotePieces
 pub mod Tidy
 pub mod Laying
 pub mod Moving

@@ -38,6 +38,18 @@ unfoldable pub linearShelf : Header → List ℕ → Bool
 unfolding layoutOk linearTake readNotes readCells
 linearShelf H ws = layoutOk (H .words) ws && linearTake H (word ws 0) (notesIn ws) (cellsIn ws)
 
+-- ---- what the tests before them say
+
+-- the notes that the rules give from cells that passed, from left to right
+line-sound : (H : Header) (beats : ℕ) → (H .epsilon) ≤ (H .delta) → (cells : List Cell) → every (cellOk (H .delta) beats) cells ≡ true
+    → cellsSound (H .delta) cells ≡ true → lineNotes H cells ≡ walkFrom H none cells
+line-sound H beats le cells e f =
+    line-from H le (sound-pieced (H .delta) beats cells (all-imp (λ c. cellOk (H .delta) beats c ≡ true) (Fine (H .delta) beats) cells (λ c. fine-of (H .delta) beats c) (every-all (cellOk (H .delta) beats) cells e)) f)
+
+-- cells that passed lie apart
+cells-apart-of : (δ beats : ℕ) (cells : List Cell) → every (cellOk δ beats) cells ≡ true → cellsSound δ cells ≡ true → Pairs (Apart δ) cells
+cells-apart-of δ beats cells e f = sound-apart δ beats cells (all-imp (λ c. cellOk δ beats c ≡ true) (Fine δ beats) cells (λ c. fine-of δ beats c) (every-all (cellOk δ beats) cells e)) f
+
 -- the last two tests may use that the ones before them passed
 late-two : (d e f g h i j : Bool) → (d ≡ true → e ≡ true → f ≡ true → (g ≡ i) × (h ≡ j)) → d && e && f && g && h ≡ d && e && f && i && j
 late-two false e f g h i j k = refl
@@ -45,7 +57,8 @@ late-two true false f g h i j k = refl
 late-two true true false g h i j k = refl
 late-two true true true g h i j k = let s = k refl refl refl in ap₂ _&&_ (s .0) (s .1)
 
-pub linear-chain : (H : Header) → 0 < H .delta → H .epsilon ≤ H .delta → (beats : ℕ) (notes : List Note) (cells : List Cell) → linearTake H beats notes cells ≡ chainTake H beats notes cells
+pub linear-chain : (H : Header) → 0 < H .delta → H .epsilon ≤ H .delta → (beats : ℕ) (notes : List Note) (cells : List Cell)
+    → linearTake H beats notes cells ≡ chainTake H beats notes cells
 unfolding linearTake chainTake notesWalked notesGiven
 linear-chain H z le beats notes cells =
     let δ = H .delta in

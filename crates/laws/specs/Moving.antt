@@ -179,7 +179,8 @@ module _ (δ : ℕ) (z : 0 < δ) where
         le3 : (a b c d : ℕ) → a < b → b ≡ c → c ≤ d → a ≤ d
         le3 a b c d p q r = omega arith
 
-    pub solid-move : (t : Take) → Solid δ t → (more : ℕ) → All (λ n. D (firstBeat δ n)) (t .inner) → All (λ c. D (c .beat)) (t .cells) → ((b : ℕ) → D b → g b < more)
+    pub solid-move : (t : Take) → Solid δ t → (more : ℕ) → All (λ n. D (firstBeat δ n)) (t .inner) → All (λ c. D (c .beat)) (t .cells)
+        → ((b : ℕ) → D b → g b < more)
         → Solid δ (record { beats = more; inner = map noteMove (t .inner); cells = map cellMove (t .cells) })
     solid-move t s more dn dc h =
         let is : All Inner (t .inner) =
@@ -212,7 +213,8 @@ module _ (δ : ℕ) (z : 0 < δ) where
   cellLane c = c .lane
 
   -- t's beats lie before u's
-  pub solid-beside : (t u : Take) → Solid δ t → Solid δ u → t .beats ≤ u .beats → All (λ n. t .beats ≤ firstBeat δ n) (u .inner) → All (λ c. t .beats ≤ c .beat) (u .cells)
+  pub solid-beside : (t u : Take) → Solid δ t → Solid δ u → t .beats ≤ u .beats → All (λ n. t .beats ≤ firstBeat δ n) (u .inner)
+      → All (λ c. t .beats ≤ c .beat) (u .cells)
       → Solid δ (record { beats = u .beats; inner = byLane (λ n. n .lane) (t .inner ++ u .inner); cells = byLane (λ c. c .lane) (t .cells ++ u .cells) })
   solid-beside t u s r le un uc =
       let ti = t .inner in

@@ -47,7 +47,8 @@ follow-beyond p n v (above a) = up a
 follow-beyond p n v (later a b) = on a (omega arith)
 
 module _ (δ beats : ℕ) where
-  step : (p : Note) (ns : List Note) (on-it shown held : Bool) → Fair δ beats p → (held ≡ true → shown ≡ true) → All (Follow p) ns → All (Fair δ beats) ns → Pairs Follow ns
+  step : (p : Note) (ns : List Note) (on-it shown held : Bool) → Fair δ beats p → (held ≡ true → shown ≡ true) → All (Follow p) ns
+      → All (Fair δ beats) ns → Pairs Follow ns
       → (on-it ≡ true → Begins (p .lane) (p .end) ns) → Out δ beats (p .lane) (p .start) held (cond on-it (goOn p ns) (cond shown (p ∷ ns) ns))
   step p [] true shown held f h a b c d = absurd (d refl)
   step p (m ∷ ms) true shown held f h a b c d =
@@ -77,7 +78,8 @@ module _ (δ beats : ℕ) where
   }
 
   -- the same for a note that lies away from the piece and from the notes behind it
-  step-away : (n p : Note) (ns : List Note) (on-it shown : Bool) → n .start < n .end → Away n p → All (Away n) ns → (on-it ≡ true → Begins (p .lane) (p .end) ns)
+  step-away : (n p : Note) (ns : List Note) (on-it shown : Bool) → n .start < n .end → Away n p → All (Away n) ns
+      → (on-it ≡ true → Begins (p .lane) (p .end) ns)
       → All (Away n) (cond on-it (goOn p ns) (cond shown (p ∷ ns) ns))
   step-away n p [] true shown v a b d = absurd (d refl)
   step-away n p (m ∷ ms) true shown v a b d = (go a (b .0), b .1)
@@ -133,12 +135,14 @@ module _ (H : Header) (beats : ℕ) (z : 0 < (H .delta)) where
   follow-first p held [] ns o a = rw o tt
   follow-first p held (e ∷ es) ns o a = all-imp (Beyond (e .lane) (startOf (H .delta) e)) (Follow p) ns (λ n. beyond-follow p n (e .lane) (startOf (H .delta) e) (a .1) (a .0)) (o .beyond)
 
-  gap-single : (c : Cell) (cs : List Cell) → fills (H .delta) c ≡ false → filled (H .delta) c ≡ false → Fine (H .delta) beats c → All (Fine (H .delta) beats) cs → Pieced (H .delta) cs → All (Apart (H .delta) c) cs → FirstGap (own (H .delta) c) cs
+  gap-single : (c : Cell) (cs : List Cell) → fills (H .delta) c ≡ false → filled (H .delta) c ≡ false → Fine (H .delta) beats c
+      → All (Fine (H .delta) beats) cs → Pieced (H .delta) cs → All (Apart (H .delta) c) cs → FirstGap (own (H .delta) c) cs
   unfolding own
   gap-single c [] f g k ks p a = tt
   gap-single c (e ∷ es) f g k ks p a = single-gap (H .delta) beats z c e f g k (first-from (H .delta) beats z p (ks .0)) (a .0)
 
-  gap-double : (c d : Cell) (cs : List Cell) → Pair (H .delta) c d → Fine (H .delta) beats c → All (Fine (H .delta) beats) cs → Pieced (H .delta) cs → All (Apart (H .delta) d) cs → FirstGap (span (H .delta) c d) cs
+  gap-double : (c d : Cell) (cs : List Cell) → Pair (H .delta) c d → Fine (H .delta) beats c → All (Fine (H .delta) beats) cs → Pieced (H .delta) cs
+      → All (Apart (H .delta) d) cs → FirstGap (span (H .delta) c d) cs
   gap-double c d [] q k ks p a = tt
   gap-double c d (e ∷ es) q k ks p a = double-gap (H .delta) beats z c d e q k (first-from (H .delta) beats z p (ks .0)) (a .0)
 
@@ -148,7 +152,8 @@ module _ (H : Header) (beats : ℕ) (z : 0 < (H .delta)) where
   meet-lane c d m =
       sym (eqb-true (c .lane) (d .lane) (and-left (eqb (c .lane) (d .lane)) (eqb (c .side) 1) (and-left (eqb (c .lane) (d .lane) && eqb (c .side) 1) (eqb (d .side) 0) (and-left (eqb (c .lane) (d .lane) && eqb (c .side) 1 && eqb (d .side) 0) _ m))))
 
-  bound-begins : (c : Cell) (cs : List Cell) (ns : List Note) → Outs (boundNext H c cs) cs ns → boundNext H c cs ≡ true → Begins (c .lane) (endOf (H .delta) c) ns
+  bound-begins : (c : Cell) (cs : List Cell) (ns : List Note) → Outs (boundNext H c cs) cs ns → boundNext H c cs ≡ true
+      → Begins (c .lane) (endOf (H .delta) c) ns
   unfolding boundNext
   bound-begins c [] ns o e = absurd (true≢false (sym e))
   bound-begins c (d ∷ ds) ns o e =
@@ -156,7 +161,8 @@ module _ (H : Header) (beats : ℕ) (z : 0 < (H .delta)) where
       let b : Begins (d .lane) (startOf (H .delta) d) ns = o .begins e in
       rw (← (meet-line (H .delta) z c d m), ← (meet-lane c d m)) b
 
-  outs : {cs : List Cell} → Pieced (H .delta) cs → All (Fine (H .delta) beats) cs → Pairs (Apart (H .delta)) cs → (held : Bool) → Outs held cs (walk H held cs)
+  outs : {cs : List Cell} → Pieced (H .delta) cs → All (Fine (H .delta) beats) cs → Pairs (Apart (H .delta)) cs → (held : Bool)
+      → Outs held cs (walk H held cs)
   unfolding own
   outs stop k a held = unfold walk in refl
   outs (single {c = c} {cs = cs} f g p) k a held =
@@ -177,7 +183,8 @@ module _ (H : Header) (beats : ℕ) (z : 0 < (H .delta)) where
   -- ---- an inner note lies away from the walk's notes
 
   module _ (n : Note) (v : n .start < n .end) (low : firstBeat (H .delta) n * (H .delta) ≤ n .start) (high : n .end ≤ suc (firstBeat (H .delta) n) * (H .delta)) where
-    pub away-all : {cs : List Cell} → Pieced (H .delta) cs → All (Fine (H .delta) beats) cs → Pairs (Apart (H .delta)) cs → All (Clear (H .delta) n) cs → (held : Bool) → All (Away n) (walk H held cs)
+    pub away-all : {cs : List Cell} → Pieced (H .delta) cs → All (Fine (H .delta) beats) cs → Pairs (Apart (H .delta)) cs
+        → All (Clear (H .delta) n) cs → (held : Bool) → All (Away n) (walk H held cs)
     unfolding own
     away-all stop k a w held = unfold walk in tt
     away-all (single {c = c} {cs = cs} f g p) k a w held =
@@ -201,7 +208,8 @@ module _ (H : Header) (z : 0 < (H .delta)) (le : (H .epsilon) ≤ (H .delta)) (t
   pub line-pairs : Pairs Follow (lineNotes H (t .cells))
   line-pairs = rw line-is (outs-pairs H (t .beats) z false (t .cells) (walk H false (t .cells)) (outs H (t .beats) z (s .cells-pieced) (s .cells-fine) (s .cells-apart) false))
 
-  aways : (ns : List Note) → All (Fair (H .delta) (t .beats)) ns → All (λ n. inside (H .delta) n ≡ true) ns → All (λ n. All (Clear (H .delta) n) (t .cells)) ns → All (λ n. All (Away n) (lineNotes H (t .cells))) ns
+  aways : (ns : List Note) → All (Fair (H .delta) (t .beats)) ns → All (λ n. inside (H .delta) n ≡ true) ns
+      → All (λ n. All (Clear (H .delta) n) (t .cells)) ns → All (λ n. All (Away n) (lineNotes H (t .cells))) ns
   aways [] f i c = tt
   aways (n ∷ ns) f i c =
       let l = inside-low (H .delta) n (i .0) in

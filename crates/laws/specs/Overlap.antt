@@ -54,7 +54,8 @@ module _ (δ : ℕ) where
   pieceNotes (single {c = c} f g p) = own δ c ∷ pieceNotes p
   pieceNotes (double {c = c} {d = d} q p) = span δ c d ∷ pieceNotes p
 
-pub pieces-notes : (H : Header) {cs : List Cell} (p : Pieced (H .delta) cs) (held : Bool) → map (λ (p : Piece). p .note) (pieces H held cs) ≡ pieceNotes (H .delta) p
+pub pieces-notes : (H : Header) {cs : List Cell} (p : Pieced (H .delta) cs) (held : Bool)
+    → map (λ (p : Piece). p .note) (pieces H held cs) ≡ pieceNotes (H .delta) p
 unfolding own
 pieces-notes H stop held = unfold pieces in refl
 pieces-notes H (single {c = c} {cs = cs} f g p) held =
@@ -93,7 +94,8 @@ module _ (δ beats : ℕ) (z : 0 < δ) where
 -- ---- an inner note and pieces
 
 module _ (δ : ℕ) (n : Note) (v : n .start < n .end) (low : firstBeat δ n * δ < n .start) (high : n .end < suc (firstBeat δ n) * δ) where
-  pub clear-away : (beats : ℕ) → 0 < δ → {cs : List Cell} (p : Pieced δ cs) → All (Fine δ beats) cs → All (Clear δ n) cs → All (Away n) (pieceNotes δ p)
+  pub clear-away : (beats : ℕ) → 0 < δ → {cs : List Cell} (p : Pieced δ cs) → All (Fine δ beats) cs → All (Clear δ n) cs
+      → All (Away n) (pieceNotes δ p)
   clear-away beats z stop k a = tt
   clear-away beats z (single {c = c} f g p) k a =
       (away-single δ beats z n v (omega arith) (omega arith) c f g (k .0) (a .0), clear-away beats z p (k .1) (a .1))
@@ -161,7 +163,8 @@ pub record Ahead (c d : Cell) : Type 0 where
   pub closes : c .lane ≡ d .lane → c .beat ≡ d .beat → d .side ≡ 1
 
 module _ (δ beats : ℕ) (z : 0 < δ) where
-  before-apart : (c d : Cell) → Ahead c d → (c .lane ≡ d .lane → c .beat ≡ d .beat → c .side ≡ 0 → d .side ≡ 1 → fills δ c ≡ false → c .after + d .before ≤ δ) → Apart δ c d
+  before-apart : (c d : Cell) → Ahead c d
+      → (c .lane ≡ d .lane → c .beat ≡ d .beat → c .side ≡ 0 → d .side ≡ 1 → fills δ c ≡ false → c .after + d .before ≤ δ) → Apart δ c d
   before-apart c d b h = elim (ℕ-discrete (c .lane) (d .lane)) [
     | yes l ↦ elim (ℕ-discrete (c .beat) (d .beat)) [
       | yes e ↦ side-up l e (b .opens l e) (b .closes l e) (h l e (b .opens l e) (b .closes l e))
@@ -171,7 +174,8 @@ module _ (δ beats : ℕ) (z : 0 < δ) where
   ]
 
   -- two pieces of one beat leave a gap
-  own-gap : (c d : Cell) → Fine δ beats c → Away (own δ c) (own δ d) → c .lane ≡ d .lane → c .beat ≡ d .beat → c .side ≡ 0 → d .side ≡ 1 → c .after + d .before ≤ δ
+  own-gap : (c d : Cell) → Fine δ beats c → Away (own δ c) (own δ d) → c .lane ≡ d .lane → c .beat ≡ d .beat → c .side ≡ 0 → d .side ≡ 1
+      → c .after + d .before ≤ δ
   unfolding own startOf endOf
   own-gap c d k a l b o s = go a
     where
@@ -195,7 +199,8 @@ module _ (δ beats : ℕ) (z : 0 < δ) where
           let e : suc (d .beat) * δ ≤ c .beat * δ = rw (x, y) at j in
           absurd (omega (arith, t))
 
-  own-apart : (c : Cell) → Fine δ beats c → {cs : List Cell} (p : Pieced δ cs) → All (Ahead c) cs → All (Away (own δ c)) (pieceNotes δ p) → All (Apart δ c) cs
+  own-apart : (c : Cell) → Fine δ beats c → {cs : List Cell} (p : Pieced δ cs) → All (Ahead c) cs → All (Away (own δ c)) (pieceNotes δ p)
+      → All (Apart δ c) cs
   own-apart c k stop b a = tt
   own-apart c k (single {c = e} f g p) b a =
       (before-apart c e (b .0) (λ l i o s n. own-gap c e k (a .0) l i o s), own-apart c k p (b .1) (a .1))

@@ -136,7 +136,8 @@ before-of c d s t e = go (ltb (c .lane) (d .lane)) refl e
         let u : c .side < d .side = ltb-true (c .side) (d .side) (and-right (eqb (c .beat) (d .beat)) _ q) in
         record { lanes = omega arith; beats = λ k. omega arith; opens = λ k m. omega arith; closes = λ k m. omega arith }
 
-    go : (a : Bool) → ltb (c .lane) (d .lane) ≡ a → a || eqb (c .lane) (d .lane) && (ltb (c .beat) (d .beat) || eqb (c .beat) (d .beat) && ltb (c .side) (d .side)) ≡ true → Ahead c d
+    go : (a : Bool) → ltb (c .lane) (d .lane) ≡ a
+        → a || eqb (c .lane) (d .lane) && (ltb (c .beat) (d .beat) || eqb (c .beat) (d .beat) && ltb (c .side) (d .side)) ≡ true → Ahead c d
     go true p q =
         let x : c .lane < d .lane = ltb-true (c .lane) (d .lane) p in
         record { lanes = omega arith; beats = λ k. absurd (omega arith); opens = λ k m. absurd (omega arith); closes = λ k m. absurd (omega arith) }
@@ -222,7 +223,8 @@ module _ (δ : ℕ) where
       rest : Opens (d ∷ ds) (d ∷ ds)
       rest = opens-rest c (d ∷ ds) (b .0) (o .1)
 
-      go : (t : Bool) → fills δ c ≡ t → (Opens (d ∷ ds) (d ∷ ds) → Closes (d ∷ ds) (d ∷ ds) → Pieced δ (d ∷ ds)) → (Opens ds ds → Closes ds ds → Pieced δ ds) → Pieced δ (c ∷ d ∷ ds)
+      go : (t : Bool) → fills δ c ≡ t → (Opens (d ∷ ds) (d ∷ ds) → Closes (d ∷ ds) (d ∷ ds) → Pieced δ (d ∷ ds))
+          → (Opens ds ds → Closes ds ds → Pieced δ ds) → Pieced δ (c ∷ d ∷ ds)
       go true e r q =
           let w : Pair δ c d = partner-next c d ds (b .0 .0) (b .1 .0) (o .0 e) in
           let x = closes-rest c (d ∷ ds) ds (all-imp (Ahead d) (λ e. Pair δ c e → ⊥) ds (λ e x. not-past c d e (b .0 .0) x) (b .1 .0)) (s .1 .1) in

@@ -27,7 +27,8 @@ use Rattle.laws.specs.Steps.{HistoryOk, Kept, Ranges, positive-delta, ra
 
 -- ---- every shelf that a list of calls reaches is sound
 
-given-sound : (m : Machine) (i : ℕ) → 0 < m .header .delta → m .header .epsilon ≤ m .header .delta → Solid (m .header .delta) (historyTake (m .header .delta) (m .recordings) (history m i))
+given-sound : (m : Machine) (i : ℕ) → 0 < m .header .delta → m .header .epsilon ≤ m .header .delta
+    → Solid (m .header .delta) (historyTake (m .header .delta) (m .recordings) (history m i))
     → HistoryOk (m .header) (m .recordings) (history m i) → soundShelf (m .header) (givenWords m i) ≡ true
 unfolding givenWords historyWords
 given-sound m i z le s o =
@@ -52,12 +53,14 @@ abbrev Yes : ℕ × Bool → Type 0
 Yes q = q .1 ≡ true
 
 -- a question that is answered yes whenever those before it are need not be put
-pub skip-question : (qs : List (ℕ × Bool)) (n : ℕ) (b : Bool) (rs : List (ℕ × Bool)) → (All Yes qs → b ≡ true) → firstNo (qs ++ (n, b) ∷ rs) ≡ firstNo (qs ++ rs)
+pub skip-question : (qs : List (ℕ × Bool)) (n : ℕ) (b : Bool) (rs : List (ℕ × Bool)) → (All Yes qs → b ≡ true)
+    → firstNo (qs ++ (n, b) ∷ rs) ≡ firstNo (qs ++ rs)
 unfolding firstNo
 skip-question [] n b rs h = rw (h tt)
 skip-question (q ∷ qs) n b rs h = go (q .1) refl (λ k. skip-question qs n b rs k)
   where
-    go : (t : Bool) → q .1 ≡ t → ((All Yes qs → b ≡ true) → firstNo (qs ++ (n, b) ∷ rs) ≡ firstNo (qs ++ rs)) → firstNo (q ∷ (qs ++ (n, b) ∷ rs)) ≡ firstNo (q ∷ (qs ++ rs))
+    go : (t : Bool) → q .1 ≡ t → ((All Yes qs → b ≡ true) → firstNo (qs ++ (n, b) ∷ rs) ≡ firstNo (qs ++ rs))
+        → firstNo (q ∷ (qs ++ (n, b) ∷ rs)) ≡ firstNo (q ∷ (qs ++ rs))
     go true f ih = rw (f, firstNo) (ih (λ a. h (f, a)))
     go false f ih = rw (f, firstNo)
 
@@ -71,7 +74,8 @@ other-number n (q ∷ qs) z a e = go (q .1) refl (λ f. other-number n qs z (a .
     go true f ih = ih (rw (f, firstNo) at e)
     go false f ih = a .0 (rw (f, firstNo) at e)
 
-split-fit : (H : Header) (s : List ℕ) (i k l r : ℕ) → 0 < H .delta → H .epsilon ≤ H .delta → readsSound H s (splitCall i k l r) ≡ true → resultsFit H s (splitCall i k l r) ≡ true
+split-fit : (H : Header) (s : List ℕ) (i k l r : ℕ) → 0 < H .delta → H .epsilon ≤ H .delta → readsSound H s (splitCall i k l r) ≡ true
+    → resultsFit H s (splitCall i k l r) ≡ true
 unfolding readsSound resultsFit results
 split-fit H s i k l r z le e =
     let w = shelf H s i in

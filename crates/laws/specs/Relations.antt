@@ -112,7 +112,8 @@ module _ {A : Type 0} where
       go false e ih = ih
 
 module _ {A : Type 0} where
-  pub all-all : (P Q : A → Type 0) (R : A → A → Type 0) (xs ys : List A) → ((x y : A) → P x → Q y → R x y) → All P xs → All Q ys → All (λ x. All (R x) ys) xs
+  pub all-all : (P Q : A → Type 0) (R : A → A → Type 0) (xs ys : List A) → ((x y : A) → P x → Q y → R x y) → All P xs → All Q ys
+      → All (λ x. All (R x) ys) xs
   all-all P Q R [] ys h a b = tt
   all-all P Q R (x ∷ xs) ys h a b = (all-imp Q (R x) ys (λ y q. h x y (a .0) q) b, all-all P Q R xs ys h (a .1) b)
 

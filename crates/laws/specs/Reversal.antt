@@ -46,7 +46,8 @@ module _ {A : Type 0} (lane beat : A → ℕ) (to : ℕ → A → A)
   ]
 
   -- moved back and forth
-  there-back : (n k : ℕ) (ys : List A) → All (λ x. Ranged lane beat to n x × (k ≤ beat x)) ys → map (λ x. to (k + beat x) x) (map (λ x. to (beat x - k) x) ys) ≡ ys
+  there-back : (n k : ℕ) (ys : List A) → All (λ x. Ranged lane beat to n x × (k ≤ beat x)) ys
+      → map (λ x. to (k + beat x) x) (map (λ x. to (beat x - k) x) ys) ≡ ys
   there-back n k [] a = refl
   there-back n k (y ∷ ys) a =
       let h : k ≤ beat y = a .0 .1 in
@@ -97,7 +98,8 @@ module _ {A : Type 0} (lane beat : A → ℕ) (to : ℕ → A → A)
       ∙ append-nil xs)
       ∙ tidy-byLane lane beat to n xs t
 
-  right-join : (n m : ℕ) (xs ys : List A) → Tidy lane beat to n xs → Tidy lane beat to m ys → rightOf beat to n (byLane lane (xs ++ laterBy beat to n ys)) ≡ ys
+  right-join : (n m : ℕ) (xs ys : List A) → Tidy lane beat to n xs → Tidy lane beat to m ys
+      → rightOf beat to n (byLane lane (xs ++ laterBy beat to n ys)) ≡ ys
   unfolding rightOf laterBy
   right-join n m xs ys t u =
       let zs = map (λ x. to (n + beat x) x) ys in
@@ -154,7 +156,8 @@ module _ (H : Header) (z : 0 < (H .delta)) (le : (H .epsilon) ≤ (H .delta)) wh
   joinWords a b = wordsOf H (joinTakes (H .delta) (takeIn (H .delta) a) (takeIn (H .delta) b))
 
   -- split and join: every word as before
-  pub split-join : (ws : List ℕ) → length ws ≡ (H .words) → soundShelf H ws ≡ true → (k : ℕ) → k ≤ word ws 0 → joinWords (leftWords k ws) (rightWords k ws) ≡ ws
+  pub split-join : (ws : List ℕ) → length ws ≡ (H .words) → soundShelf H ws ≡ true → (k : ℕ) → k ≤ word ws 0
+      → joinWords (leftWords k ws) (rightWords k ws) ≡ ws
   split-join ws n e k h =
       let t = takeIn (H .delta) ws in
       let s : Solid (H .delta) t = sound-solid H z ws e in
@@ -163,7 +166,8 @@ module _ (H : Header) (z : 0 < (H .delta)) (le : (H .epsilon) ≤ (H .delta)) wh
       ∙ ap (wordsOf H) (join-again (H .delta) z t s k b) ∙ words-again H z ws e n
 
   -- join and split: both shelves' words as before
-  pub join-split-left : (a b : List ℕ) → length a ≡ (H .words) → soundShelf H a ≡ true → soundShelf H b ≡ true → leftWords (word a 0) (joinWords a b) ≡ a
+  pub join-split-left : (a b : List ℕ) → length a ≡ (H .words) → soundShelf H a ≡ true → soundShelf H b ≡ true
+      → leftWords (word a 0) (joinWords a b) ≡ a
   join-split-left a b n e f =
       let t = takeIn (H .delta) a in
       let u = takeIn (H .delta) b in
@@ -174,7 +178,8 @@ module _ (H : Header) (z : 0 < (H .delta)) (le : (H .epsilon) ≤ (H .delta)) wh
       ∙ ap (λ (k : ℕ). wordsOf H (splitLeft (H .delta) k (joinTakes (H .delta) t u))) (sym w)
       ∙ ap (wordsOf H) (split-again-left (H .delta) z t u s) ∙ words-again H z a e n
 
-  pub join-split-right : (a b : List ℕ) → length b ≡ (H .words) → soundShelf H a ≡ true → soundShelf H b ≡ true → rightWords (word a 0) (joinWords a b) ≡ b
+  pub join-split-right : (a b : List ℕ) → length b ≡ (H .words) → soundShelf H a ≡ true → soundShelf H b ≡ true
+      → rightWords (word a 0) (joinWords a b) ≡ b
   join-split-right a b n e f =
       let t = takeIn (H .delta) a in
       let u = takeIn (H .delta) b in

@@ -42,7 +42,8 @@ module _ (H : Header) (le : (H .epsilon) ≤ (H .delta)) where
   unfolding filled standsAlone
   fill-close-alone d e = go (opening d) refl
     where
-      go : (o : Bool) → opening d ≡ o → cond o (leb (H .epsilon) (d .after) || eqb (d .before) 0) (leb (H .epsilon) (d .before) || eqb (d .after) 0) ≡ true
+      go : (o : Bool) → opening d ≡ o
+          → cond o (leb (H .epsilon) (d .after) || eqb (d .before) 0) (leb (H .epsilon) (d .before) || eqb (d .after) 0) ≡ true
       go true f = absurd (true≢false (sym (and-left (not true) (leb (H .delta) (d .before)) (rw f at e))))
       go false f =
           let a : (H .delta) ≤ d .before = leb-true (H .delta) (d .before) (and-right (not (opening d)) (leb (H .delta) (d .before)) e) in
@@ -129,7 +130,8 @@ module _ (H : Header) where
   abbrev pub alone : Cell → Bool → Bool → Piece
   alone c held right = record { note = record { lane = c .lane; start = startOf (H .delta) c; end = endOf (H .delta) c; velocity = c .velocity }; shown = held; joined = right }
 
-  pub add-single : (c : Cell) (held right : Bool) (ps : List Piece) → fills (H .delta) c ≡ false → addCell (H .delta) c held right ps ≡ alone c held right ∷ ps
+  pub add-single : (c : Cell) (held right : Bool) (ps : List Piece) → fills (H .delta) c ≡ false
+      → addCell (H .delta) c held right ps ≡ alone c held right ∷ ps
   unfolding addCell
   add-single c held right [] e = refl
   add-single c held right (p ∷ ps) e = rw (e, addCell)

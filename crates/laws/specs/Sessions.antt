@@ -93,7 +93,8 @@ module _ (H : Header) (shelves : List (List ℕ)) (w : Whole (H .words) shelves)
       rw (k, m) (ap (λ (l : List ℕ). wordsOfHeader H ++ l) (put-flat (H .words) shelves i ws w b))
 
   -- other words in shelf i
-  pub put-of : (i : ℕ) (ws : List ℕ) → i < length shelves → length ws ≡ H .words → putShelf H (sessionOf H shelves) i ws ≡ sessionOf H (set shelves i ws)
+  pub put-of : (i : ℕ) (ws : List ℕ) → i < length shelves → length ws ≡ H .words
+      → putShelf H (sessionOf H shelves) i ws ≡ sessionOf H (set shelves i ws)
   unfolding putShelf
   put-of i ws b n =
       let l : length (sessionOf H shelves) ≡ 4 + length shelves * H .words = length-session in
@@ -122,7 +123,8 @@ length-cell-words : (cs : List Cell) → length (gather cellWords cs) ≡ 6 * le
 length-cell-words [] = refl
 length-cell-words (c ∷ cs) = let e = length-cell-words cs in omega arith
 
-pub length-shelf-words : (W beats : ℕ) (ns : List Note) (cs : List Cell) → wordsUsed (length ns) (length cs) ≤ W → length (shelfWords W beats ns cs) ≡ W
+pub length-shelf-words : (W beats : ℕ) (ns : List Note) (cs : List Cell) → wordsUsed (length ns) (length cs) ≤ W
+    → length (shelfWords W beats ns cs) ≡ W
 unfolding shelfWords
 length-shelf-words W beats ns cs h = simp (length-append, length-replicate, length-note-words, length-cell-words) (omega arith)
 

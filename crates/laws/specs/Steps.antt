@@ -132,7 +132,8 @@ module _ (m : Machine) (k : Kept m) where
   unfolding shelvesOf historyWords
   whole-shelves = go (m .histories) (k .histories-ok)
     where
-      go : (gs : List (List (ℕ × ℕ))) → All (HistoryOk (m .header) (m .recordings)) gs → Whole (m .header .words) (map (historyWords (m .header) (m .recordings)) gs)
+      go : (gs : List (List (ℕ × ℕ))) → All (HistoryOk (m .header) (m .recordings)) gs
+          → Whole (m .header .words) (map (historyWords (m .header) (m .recordings)) gs)
       go [] a = tt
       go (g ∷ gs) a = (length-words (m .header) (historyTake (m .header .delta) (m .recordings) g) (a .0 .fit), go gs (a .1))
 
@@ -199,17 +200,20 @@ module _ (m : Machine) (k : Kept m) (new : List Recording) (g : Grown (m .header
     fit = ap (fits (m .header)) (g .same pairs (o .named)) ∙ o .fit;
   }
 
-  old-words : (gs : List (List (ℕ × ℕ))) → All (HistoryOk (m .header) (m .recordings)) gs → map (historyWords (m .header) new) gs ≡ map (historyWords (m .header) (m .recordings)) gs
+  old-words : (gs : List (List (ℕ × ℕ))) → All (HistoryOk (m .header) (m .recordings)) gs
+      → map (historyWords (m .header) new) gs ≡ map (historyWords (m .header) (m .recordings)) gs
   unfolding historyWords
   old-words [] a = refl
   old-words (h ∷ gs) a = ap₂ _∷_ (ap (wordsOf (m .header)) (g .same h (a .0 .named))) (old-words gs (a .1))
 
-  fit-all : (ps : List (ℕ × List (ℕ × ℕ))) → All (Wanted (m .header) new) ps → All (Fitting (m .header) (length (shelvesOf m))) (map (takeFor (m .header) new) ps)
+  fit-all : (ps : List (ℕ × List (ℕ × ℕ))) → All (Wanted (m .header) new) ps
+      → All (Fitting (m .header) (length (shelvesOf m))) (map (takeFor (m .header) new) ps)
   fit-all [] q = tt
   fit-all (p ∷ ps) q =
       ((let d : p .0 < m .header .shelves = q .0 .0 in let c : length (shelvesOf m) ≡ m .header .shelves = count-shelves m k in omega arith, q .0 .1 .fit), fit-all ps (q .1))
 
-  shelves-edited : (news : List (ℕ × List (ℕ × ℕ))) → setAll (shelvesOf m) (map (wordsFor (m .header)) (map (takeFor (m .header) new) news)) ≡ shelvesOf (edited m new news)
+  shelves-edited : (news : List (ℕ × List (ℕ × ℕ)))
+      → setAll (shelvesOf m) (map (wordsFor (m .header)) (map (takeFor (m .header) new) news)) ≡ shelvesOf (edited m new news)
   unfolding shelvesOf edited historyWords
   shelves-edited news =
       ap (setAll (map (historyWords (m .header) (m .recordings)) (m .histories))) (map-map (wordsFor (m .header)) (takeFor (m .header) new) news)
@@ -231,7 +235,8 @@ module _ (m : Machine) (k : Kept m) (new : List Recording) (g : Grown (m .header
   }
 
   -- the call's results are what the new histories give, and each new history is in order
-  pub edit-step : (rs : List (ℕ × Take)) (news : List (ℕ × List (ℕ × ℕ))) → rs ≡ map (takeFor (m .header) new) news → All (Wanted (m .header) new) news
+  pub edit-step : (rs : List (ℕ × Take)) (news : List (ℕ × List (ℕ × ℕ))) → rs ≡ map (takeFor (m .header) new) news
+      → All (Wanted (m .header) new) news
       → Step (edited m new news) (putAll (m .header) (sessionFor m) rs)
   edit-step rs news e a = record {
     kept = kept-edited news a;

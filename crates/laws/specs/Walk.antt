@@ -52,7 +52,8 @@ module _ (H : Header) (le : (H .epsilon) ≤ (H .delta)) where
   walk-runs stop left = refl
   walk-runs (single {c = c} {cs = cs} f g p) left = go (boundNext H c cs) refl (walk-runs p (boundNext H c cs))
     where
-      go : (b : Bool) → boundNext H c cs ≡ b → runs (pieces H (boundNext H c cs) cs) ≡ walk H (boundNext H c cs) cs → runs (pieces H left (c ∷ cs)) ≡ walk H left (c ∷ cs)
+      go : (b : Bool) → boundNext H c cs ≡ b → runs (pieces H (boundNext H c cs) cs) ≡ walk H (boundNext H c cs) cs
+          → runs (pieces H left (c ∷ cs)) ≡ walk H left (c ∷ cs)
       go true e ih = rw (step-single H c cs left f, f, e, or-right (standsAlone H c || left) {b = true} refl, next-shown c cs p e) (ap (goOn (own (H .delta) c)) (rw e at ih))
       go false e ih = rw (step-single H c cs left f, f, e, or-false (standsAlone H c || left)) (ap (λ (ns : List Note). cond (standsAlone H c || left) (own (H .delta) c ∷ ns) ns) (rw e at ih))
   walk-runs (double {c = c} {d = d} {cs = cs} q p) left = go (boundNext H d cs) refl (walk-runs p (boundNext H d cs))
@@ -63,7 +64,8 @@ module _ (H : Header) (le : (H .epsilon) ≤ (H .delta)) where
       sd : standsAlone H d ≡ true
       sd = fill-close-alone H le d (pair-filled (H .delta) c d q)
 
-      go : (b : Bool) → boundNext H d cs ≡ b → runs (pieces H (boundNext H d cs) cs) ≡ walk H (boundNext H d cs) cs → runs (pieces H left (c ∷ d ∷ cs)) ≡ walk H left (c ∷ d ∷ cs)
+      go : (b : Bool) → boundNext H d cs ≡ b → runs (pieces H (boundNext H d cs) cs) ≡ walk H (boundNext H d cs) cs
+          → runs (pieces H left (c ∷ d ∷ cs)) ≡ walk H left (c ∷ d ∷ cs)
       go true e ih =
           rw (step-fill H c d cs left (pair-fills (H .delta) c d q) (q .opens) (pair-close (H .delta) c d q), pair-fills (H .delta) c d q, not-open (H .delta) d (pair-close (H .delta) c d q), sc, sd, e, next-shown d cs p e)
           (ap (goOn (record { lane = c .lane; start = startOf (H .delta) c; end = endOf (H .delta) d; velocity = c .velocity })) (rw e at ih) ∙ sym (go-on-twice (own (H .delta) c) (own (H .delta) d) (walk H true cs)))
@@ -163,7 +165,8 @@ module _ (H : Header) where
       none-held none e = refl
       none-held (some n) e = absurd (true≢false (sym (or-right (standsAlone H c) refl) ∙ e))
 
-      go : (b : Bool) → linked H c cs ≡ b → (t : Bool) → standsAlone H c || inHand o ≡ t → walkFrom H o (c ∷ cs) ≡ after o (walk H (inHand o) (c ∷ cs))
+      go : (b : Bool) → linked H c cs ≡ b → (t : Bool) → standsAlone H c || inHand o ≡ t
+          → walkFrom H o (c ∷ cs) ≡ after o (walk H (inHand o) (c ∷ cs))
       go true e t h = rw (e, walkFrom) (f e (grown (H .delta) o c) ∙ grown-on o c (walk H true cs))
       go false e true h = rw (e, h, walkFrom) (ap (_∷_ (grown (H .delta) o c)) g ∙ grown-end o c (walk H false cs))
       go false e false h = rw (e, h, walkFrom) (g ∙ none-held o h)
@@ -196,7 +199,8 @@ module _ (H : Header) where
   walk-double c d cs held q =
       rw (pair-fills (H .delta) c d q, not-open (H .delta) d (pair-close (H .delta) c d q), or-right (standsAlone H d) {b = true} refl) (go (boundNext H d cs) (walk H (boundNext H d cs) cs))
     where
-      go : (b : Bool) (ns : List Note) → goOn (own (H .delta) c) (cond b (goOn (own (H .delta) d) ns) (own (H .delta) d ∷ ns)) ≡ cond b (goOn (span (H .delta) c d) ns) (span (H .delta) c d ∷ ns)
+      go : (b : Bool) (ns : List Note)
+          → goOn (own (H .delta) c) (cond b (goOn (own (H .delta) d) ns) (own (H .delta) d ∷ ns)) ≡ cond b (goOn (span (H .delta) c d) ns) (span (H .delta) c d ∷ ns)
       go true [] = refl
       go true (k ∷ ks) = refl
       go false ns = refl
