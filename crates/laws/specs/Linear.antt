@@ -14,12 +14,13 @@ use Rattle.model.specs.declared.Cell.{Cell}
 use Rattle.model.specs.declared.Header.{Header}
 use Rattle.model.specs.declared.Note.{Note}
 use Rattle.laws.specs.Chain.{cellOk, cellsSound, chainShelf, chainTake, clear}
-use Rattle.laws.specs.ChainSolid.{cells-apart-of, line-sound}
+use Rattle.laws.specs.ChainSolid.{fine-of, sound-apart, sound-pieced}
 use Rattle.laws.specs.Clauses.{sound-chain}
 use Rattle.laws.specs.Notes.{Follow, Long, long-notes, ok-pairs}
-use Rattle.laws.specs.Relations.{all-keep, pairs-keep}
+use Rattle.laws.specs.Relations.{Pairs, all-imp, all-keep, every-all, pairs-keep}
+use Rattle.laws.specs.Solid.{Apart, Fine}
 use Rattle.laws.specs.Sweep.{sweep, sweep-all}
-use Rattle.laws.specs.Walk.{walkFrom}
+use Rattle.laws.specs.Walk.{line-from, walkFrom}
 
 -- The notes touching or crossing a line are those of the walk.
 unfoldable pub notesWalked : Header → List Note → List Cell → Bool
