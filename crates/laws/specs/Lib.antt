@@ -1,3 +1,4 @@
+-- Theorems about the definitions of crate `model`. To read first: Histories, Healing, Laying, Clauses, Reversal, Claim, Reached.
 pub mod Booleans
 pub mod Lists
 pub mod Relations
