@@ -24,7 +24,7 @@ use Rattle.laws.specs.Merging.{length-merge}
 use Rattle.laws.specs.Moving.{solid-left, solid-right}
 use Rattle.laws.specs.Reading.{length-cells, length-read}
 use Rattle.laws.specs.Relations.{All, Pairs, all-imp, all-keep, all-kept}
-use Rattle.laws.specs.Rules.{Pair, Pieced, double, own, single, span, stop}
+use Rattle.laws.specs.Rules.{Pair, Pieced, double, moved-alone, moved-bound, own, single, span, stop}
 use Rattle.laws.specs.Solid.{Apart, Solid, beat-up, lane-up, side-up}
 use Rattle.laws.specs.Sound.{sound-notes, sound-solid, sound-used}
 use Rattle.laws.specs.Walk.{line-walk, linked, walk, walk-double, walk-single}
@@ -276,9 +276,9 @@ module _ (H : Header) (k : ℕ) where
       ]
 
   bound-back : (c : Cell) (cs : List Cell) → k ≤ c .beat → All (λ d. k ≤ d .beat) cs → boundNext H (back c) (map back cs) ≡ boundNext H c cs
-  unfolding boundNext bound standsAlone
+  unfolding boundNext
   bound-back c [] a b = refl
-  bound-back c (d ∷ ds) a b = ap (λ (t : Bool). t && bound H c d) (meet-back c d a (b .0))
+  bound-back c (d ∷ ds) a b = ap₂ _&&_ (meet-back c d a (b .0)) (moved-bound H (c .beat - k) (d .beat - k) c d)
 
   link-back : (c : Cell) (cs : List Cell) → k ≤ c .beat → All (λ d. k ≤ d .beat) cs → linked H (back c) (map back cs) ≡ linked H c cs
   unfolding linked fills
@@ -289,15 +289,11 @@ module _ (H : Header) (k : ℕ) where
   unfolding walk
   length-walk c cs held = length-step (own (H .delta) c) (walk H (linked H c cs) cs) (linked H c cs) (standsAlone H c || held)
 
-  alone-back : (c : Cell) → standsAlone H (back c) ≡ standsAlone H c
-  unfolding standsAlone
-  alone-back c = refl
-
   pub walk-back : (cs : List Cell) (held : Bool) → All (λ d. k ≤ d .beat) cs → length (walk H held (map back cs)) ≡ length (walk H held cs)
   walk-back [] held a = refl
   walk-back (c ∷ cs) held a =
       length-walk (back c) (map back cs) held
-      ∙ ap₂ (λ (t u : Bool). count t (u || held) (length (walk H t (map back cs)))) (link-back c cs (a .0) (a .1)) (alone-back c)
+      ∙ ap₂ (λ (t u : Bool). count t (u || held) (length (walk H t (map back cs)))) (link-back c cs (a .0) (a .1)) (moved-alone H (c .beat - k) c)
       ∙ ap (count (linked H c cs) (standsAlone H c || held)) (walk-back cs (linked H c cs) (a .1)) ∙ sym (length-walk c cs held)
 
 -- ---- takes

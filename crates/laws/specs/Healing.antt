@@ -23,7 +23,7 @@ use Rattle.laws.specs.Booleans.{and-left, and-right, and-yes, or-left, o
 use Rattle.laws.specs.Merging.{merge-parts}
 use Rattle.laws.specs.Notes.{long-notes, note-same, ok-sorted}
 use Rattle.laws.specs.Relations.{All}
-use Rattle.laws.specs.Rules.{Fresh, close-alone, fresh-free, not-open, open-free, same-bound, step-fill, step-single}
+use Rattle.laws.specs.Rules.{Fresh, close-alone, fresh-free, not-open, open-alone, open-free, same-bound, step-fill, step-single}
 
 -- The first piece is shown, and the notes are m and then ns.
 record Healed (ps : List Piece) (m : Note) (ns : List Note) : Type 0 where
@@ -56,10 +56,10 @@ module _ (H : Header) (z : 0 < (H .delta)) (n : Note) where
   rest k b = gather (cellsInBeat (H .delta) n) (countFrom (suc k) b)
 
   open-held : (b : ℕ) (left : Bool) → n .start ≤ b * (H .delta) → (n .start < b * (H .delta) → left ≡ true) → standsAlone H (openC b) || left ≡ true
-  unfolding standsAlone cellAt
+  unfolding cellAt
   open-held b left h l = elim (decLe (suc (n .start)) (b * (H .delta))) [
     | yes a ↦ or-right (standsAlone H (openC b)) (l a)
-    | no a ↦ or-left left (or-right (leb (H .epsilon) (n .end - b * (H .delta))) (eq-eqb (b * (H .delta) - n .start) 0 (omega arith)))
+    | no a ↦ or-left left (open-alone H (openC b) refl (omega arith))
   ]
 
   bound-same : (b : ℕ) → n .start < suc b * (H .delta) → suc b * (H .delta) < n .end → bound H (closeC b) (openC (suc b)) ≡ true

@@ -9,12 +9,13 @@ use lib.Dec.{eqb, leb, ltb}
 use borrow.Author.Tests.{eq-eqb, le-leb, leb-true, lt-ltb, ne-eqb}
 use Rattle.model.specs.Binding.{Piece, addCell, bound, boundNext, endOf, fills, meet, opening, pieces, standsAlone, startOf}
 use Rattle.model.specs.Soundness.{filled}
+use Rattle.model.specs.Takes.{cellTo}
 use Rattle.model.specs.declared.Cell.{Cell}
 use Rattle.model.specs.declared.Header.{Header}
 use Rattle.model.specs.declared.Note.{Note}
 use Rattle.laws.specs.Booleans.{and-left, and-right, and-yes, mid, or-false, or-left, or-right}
 
--- ---- single rules
+-- ---- the facts about the rules that all else uses: no other file looks into standing alone or binding
 
 pub meet-open : (d r : Cell) → meet d r ≡ true → opening r ≡ true
 unfolding meet
@@ -70,6 +71,15 @@ ends-free H c d o a p b =
     let s : standsAlone H c ≡ true = close-alone H c o a in
     let t : standsAlone H d ≡ true = open-alone H d p b in
     (s, t, rw (s, t, a))
+
+-- neither rule looks at lanes and beats
+pub moved-alone : (H : Header) (i : ℕ) (c : Cell) → standsAlone H (cellTo i c) ≡ standsAlone H c
+unfolding standsAlone
+moved-alone H i c = refl
+
+pub moved-bound : (H : Header) (i j : ℕ) (c d : Cell) → bound H (cellTo i c) (cellTo j d) ≡ bound H c d
+unfolding bound standsAlone
+moved-bound H i j c d = refl
 
 -- ---- cells in pieces
 
@@ -171,11 +181,10 @@ module _ (H : Header) where
 
   -- a closing cell at its note's end is bound to nothing
   pub fresh-free : (d : Cell) (cs : List Cell) → d .side ≡ 1 → d .after ≡ 0 → Fresh cs → boundNext H d cs ≡ false
-  unfolding boundNext bound
+  unfolding boundNext
   fresh-free d [] o a f = refl
   fresh-free d (r ∷ rs) o a f = go (meet d r) refl
     where
       go : (t : Bool) → meet d r ≡ t → t && bound H d r ≡ false
       go false e = refl
-      go true e = rw (close-alone H d o a, open-alone H r (meet-open d r e) (f (meet-open d r e)), a)
-      -- ---- a note's own cells
+      go true e = ends-free H d r o a (meet-open d r e) (f (meet-open d r e)) .2
