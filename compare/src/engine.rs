@@ -1,0 +1,42 @@
+//! The proved calls, as C declares them: each slice is a pointer and a length.
+
+unsafe extern "C" {
+    fn take_open(
+        session: *mut u32,
+        words: usize,
+        delta: u32,
+        epsilon: u32,
+        shelves: u32,
+        shelf_words: u32,
+    ) -> u32;
+    fn take_lay(
+        session: *mut u32,
+        words: usize,
+        shelf: u32,
+        beats: u32,
+        notes: *const u32,
+        note_words: usize,
+    ) -> u32;
+}
+
+pub fn open(session: &mut [u32], header: [u32; 4]) -> u32 {
+    let [delta, epsilon, shelves, shelf_words] = header;
+    // SAFETY: pointer and length are those of a lent slice.
+    unsafe {
+        take_open(session.as_mut_ptr(), session.len(), delta, epsilon, shelves, shelf_words)
+    }
+}
+
+pub fn lay(session: &mut [u32], shelf: u32, beats: u32, notes: &[u32]) -> u32 {
+    // SAFETY: pointers and lengths are those of two lent slices that share no word.
+    unsafe {
+        take_lay(
+            session.as_mut_ptr(),
+            session.len(),
+            shelf,
+            beats,
+            notes.as_ptr(),
+            notes.len(),
+        )
+    }
+}
