@@ -17,4 +17,4 @@ test:
 	@bash tests/gate.sh
 
 clean:
-	rm -rf target build reference/target
+	rm -rf target build reference/target compare/target
