@@ -3,7 +3,6 @@
 use mathlib.Core.Bool.{Bool, _&&_, _||_, cond, false, not, true, true≢false}
 use mathlib.Core.List.{List, [], _++_, _∷_}
 use mathlib.Core.Logic.{_≢_}
-use mathlib.Core.Option.{none}
 use mathlib.Core.Path.{_∙_, _≡_, ap, refl, sym}
 use Prim.Native.Nat.{_*_, _+_, _-_, _<_, _≤_, suc, ℕ}
 use native.Mathlib.Omega.{arith}
@@ -29,11 +28,10 @@ use Rattle.laws.specs.Reading.{notes-same, past-all, past-head, read-cel
 use Rattle.laws.specs.Relations.{All, Pairs, all-imp, all-keep, all-kept, every-all, every-yes, pairs-keep}
 use Rattle.laws.specs.Rules.{Pair, Pieced, double, not-open, pair-close, pair-fills, pair-open, single, stop}
 use Rattle.laws.specs.Solid.{Apart, Clear, Fine, Solid, beat-up, fine, fine-memory, fine-range, fine-ticks, lane-up, side-up}
-use Rattle.laws.specs.Walk.{line-from, walkFrom}
 
 -- ---- cells
 
-apart-before : (δ : ℕ) (c d : Cell) → Apart δ c d → cellBefore c d ≡ true
+pub apart-before : (δ : ℕ) (c d : Cell) → Apart δ c d → cellBefore c d ≡ true
 unfolding cellBefore
 apart-before δ c d (lane-up a) = or-left (eqb (c .lane) (d .lane) && (ltb (c .beat) (d .beat) || eqb (c .beat) (d .beat) && ltb (c .side) (d .side))) (lt-ltb (c .lane) (d .lane) a)
 apart-before δ c d (beat-up a b) = or-right (ltb (c .lane) (d .lane)) (and-yes (eq-eqb (c .lane) (d .lane) a) (or-left (eqb (c .beat) (d .beat) && ltb (c .side) (d .side)) (lt-ltb (c .beat) (d .beat) b)))
@@ -50,7 +48,7 @@ pub open-filled : (δ : ℕ) (c : Cell) → opening c ≡ true → filled δ c �
 unfolding filled
 open-filled δ c e = rw e
 
-pair-partners : (δ : ℕ) (c d : Cell) → Pair δ c d → partners δ c d ≡ true
+pub pair-partners : (δ : ℕ) (c d : Cell) → Pair δ c d → partners δ c d ≡ true
 unfolding partners
 pair-partners δ c d q =
     let b : d .before ≡ c .before + δ = q .before-is in
@@ -97,7 +95,8 @@ module _ (δ : ℕ) where
       go true true true a b e = le-leb (c .beat * δ + c .after) (n .start) (w .behind (eqb-true (n .lane) (c .lane) a) (eqb-true (firstBeat δ n) (c .beat) b) e)
       go true true false a b e = le-leb (n .end + c .before) (suc (c .beat) * δ) (w .before (eqb-true (n .lane) (c .lane) a) (eqb-true (firstBeat δ n) (c .beat) b) e)
 
-pub parts-shelf : (H : Header) (beats : ℕ) (ns : List Note) (cs : List Cell) → beats ≤ 4096 → 3 + 4 * length ns + 6 * length cs ≤ (H .words) → chainTake H beats ns cs ≡ true
+pub parts-shelf : (H : Header) (beats : ℕ) (ns : List Note) (cs : List Cell) → beats ≤ 4096 → 3 + 4 * length ns + 6 * length cs ≤ (H .words)
+    → chainTake H beats ns cs ≡ true
     → chainShelf H (shelfWords (H .words) beats ns cs) ≡ true
 unfolding chainShelf layoutOk shelfWords
 parts-shelf H beats ns cs b f e =
@@ -125,9 +124,9 @@ module _ (H : Header) (z : 0 < (H .delta)) (le : (H .epsilon) ≤ (H .delta)) (t
       (rw (solid-line H z t s) (same-words (gather noteWords (lineNotes H (t .cells)))))
 
   -- the words of a solid take that fits are a sound shelf
-  pub solid-sound : t .beats ≤ 4096 → fits H t ≡ true → chainShelf H (wordsOf H t) ≡ true
+  pub solid-chain : t .beats ≤ 4096 → fits H t ≡ true → chainShelf H (wordsOf H t) ≡ true
   unfolding wordsOf fits
-  solid-sound b f = parts-shelf H (t .beats) (notesOf H t) (t .cells) b (leb-true (3 + 4 * length (notesOf H t) + 6 * length (t .cells)) (H .words) f) solid-parts
+  solid-chain b f = parts-shelf H (t .beats) (notesOf H t) (t .cells) b (leb-true (3 + 4 * length (notesOf H t) + 6 * length (t .cells)) (H .words) f) solid-parts
 
 -- ---- the parts of the test
 
@@ -173,7 +172,7 @@ parts H ws e =
 
 -- ---- cells
 
-fine-of : (δ beats : ℕ) (c : Cell) → cellOk δ beats c ≡ true → Fine δ beats c
+pub fine-of : (δ beats : ℕ) (c : Cell) → cellOk δ beats c ≡ true → Fine δ beats c
 unfolding cellOk
 fine-of δ beats c e =
     let a = cellInRange beats c in
@@ -213,7 +212,8 @@ module _ (δ : ℕ) where
   unfolding neighbours
   near-before c d e = and-left (cellBefore c d) _ e
 
-  near-next : (c d : Cell) → neighbours δ c d ≡ true → cond (fills δ c || filled δ d) (partners δ c d) (not (sameBeat c d) || leb (c .after + d .before) δ) ≡ true
+  near-next : (c d : Cell) → neighbours δ c d ≡ true
+      → cond (fills δ c || filled δ d) (partners δ c d) (not (sameBeat c d) || leb (c .after + d .before) δ) ≡ true
   unfolding neighbours
   near-next c d e = and-right (cellBefore c d) _ e
 
@@ -232,7 +232,8 @@ module _ (δ : ℕ) where
   not-filled : (c d : Cell) → neighbours δ c d ≡ true → fills δ c ≡ false → filled δ d ≡ false
   not-filled c d e f = go (fills δ c) (filled δ d) f refl (near-next c d e)
     where
-      go : (a b : Bool) → a ≡ false → filled δ d ≡ b → cond (a || b) (partners δ c d) (not (sameBeat c d) || leb (c .after + d .before) δ) ≡ true → b ≡ false
+      go : (a b : Bool) → a ≡ false → filled δ d ≡ b → cond (a || b) (partners δ c d) (not (sameBeat c d) || leb (c .after + d .before) δ) ≡ true
+          → b ≡ false
       go true b p q r = absurd (true≢false p)
       go false true p q r = absurd (true≢false (sym (partners-fills c d r) ∙ f))
       go false false p q r = refl
@@ -240,7 +241,8 @@ module _ (δ : ℕ) where
   near-pair : (c d : Cell) → c .side ≤ 1 → d .side ≤ 1 → neighbours δ c d ≡ true → fills δ c ≡ true → Pair δ c d
   near-pair c d s t e f = pair-of c d s t (go (fills δ c) f (near-next c d e))
     where
-      go : (a : Bool) → a ≡ true → cond (a || filled δ d) (partners δ c d) (not (sameBeat c d) || leb (c .after + d .before) δ) ≡ true → partners δ c d ≡ true
+      go : (a : Bool) → a ≡ true → cond (a || filled δ d) (partners δ c d) (not (sameBeat c d) || leb (c .after + d .before) δ) ≡ true
+          → partners δ c d ≡ true
       go true p r = r
       go false p r = absurd (true≢false (sym p))
 
@@ -254,14 +256,16 @@ module _ (δ : ℕ) where
   unfolding cellBefore
   near-apart c d s t e = go (ltb (c .lane) (d .lane)) refl (near-before c d e)
     where
-      deep : c .lane ≡ d .lane → (b : Bool) → ltb (c .beat) (d .beat) ≡ b → b || eqb (c .beat) (d .beat) && ltb (c .side) (d .side) ≡ true → Apart δ c d
+      deep : c .lane ≡ d .lane → (b : Bool) → ltb (c .beat) (d .beat) ≡ b → b || eqb (c .beat) (d .beat) && ltb (c .side) (d .side) ≡ true
+          → Apart δ c d
       deep l true p q = beat-up l (ltb-true (c .beat) (d .beat) p)
       deep l false p q =
           let b : c .beat ≡ d .beat = eqb-true (c .beat) (d .beat) (and-left (eqb (c .beat) (d .beat)) _ q) in
           let u : c .side < d .side = ltb-true (c .side) (d .side) (and-right (eqb (c .beat) (d .beat)) _ q) in
           side-up l b (omega arith) (omega arith) (near-gap c d e l b)
 
-      go : (a : Bool) → ltb (c .lane) (d .lane) ≡ a → a || eqb (c .lane) (d .lane) && (ltb (c .beat) (d .beat) || eqb (c .beat) (d .beat) && ltb (c .side) (d .side)) ≡ true → Apart δ c d
+      go : (a : Bool) → ltb (c .lane) (d .lane) ≡ a
+          → a || eqb (c .lane) (d .lane) && (ltb (c .beat) (d .beat) || eqb (c .beat) (d .beat) && ltb (c .side) (d .side)) ≡ true → Apart δ c d
       go true p q = lane-up (ltb-true (c .lane) (d .lane) p)
       go false p q = deep (eqb-true (c .lane) (d .lane) (and-left (eqb (c .lane) (d .lane)) _ q)) (ltb (c .beat) (d .beat)) refl (and-right (eqb (c .lane) (d .lane)) _ q)
 
@@ -300,7 +304,8 @@ module _ (δ : ℕ) where
         let r : Pairs (Apart δ) (d ∷ ds) = chain-pairs d ds (k .0) (k .1) (chain-more c d ds e) in
         ((a, all-imp (Apart δ d) (Apart δ c) ds (λ x b. apart-trans c d x a b) (r .0)), r)
 
-    chain-pieced : (c : Cell) (cs : List Cell) → Fine δ beats c → All (Fine δ beats) cs → filled δ c ≡ false → cellsChain δ c cs ≡ true → Pieced δ (c ∷ cs)
+    chain-pieced : (c : Cell) (cs : List Cell) → Fine δ beats c → All (Fine δ beats) cs → filled δ c ≡ false → cellsChain δ c cs ≡ true
+        → Pieced δ (c ∷ cs)
     chain-pieced c [] f k g e = single (chain-last c e) g stop
     chain-pieced c (d ∷ []) f k g e = go (fills δ c) refl (λ h. chain-pieced d [] (k .0) tt h (chain-more c d [] e))
       where
@@ -311,14 +316,15 @@ module _ (δ : ℕ) where
         go (fills δ c) refl (λ h. chain-pieced d (x ∷ xs) (k .0) (k .1) h (chain-more c d (x ∷ xs) e))
         (λ h. chain-pieced x xs (k .1 .0) (k .1 .1) h (chain-more d x xs (chain-more c d (x ∷ xs) e)))
       where
-        go : (b : Bool) → fills δ c ≡ b → (filled δ d ≡ false → Pieced δ (d ∷ x ∷ xs)) → (filled δ x ≡ false → Pieced δ (x ∷ xs)) → Pieced δ (c ∷ d ∷ x ∷ xs)
+        go : (b : Bool) → fills δ c ≡ b → (filled δ d ≡ false → Pieced δ (d ∷ x ∷ xs)) → (filled δ x ≡ false → Pieced δ (x ∷ xs))
+            → Pieced δ (c ∷ d ∷ x ∷ xs)
         go true p r q =
             let w : Pair δ c d = near-pair c d (f .side-below) (k .0 .side-below) (chain-first c d (x ∷ xs) e) p in
             let o : d .side ≡ 1 = w .closes in
             double w (q (not-filled d x (chain-first d x xs (chain-more c d (x ∷ xs) e)) (not-open δ d (ne-eqb (d .side) 0 (omega arith)))))
         go false p r q = single p g (r (not-filled c d (chain-first c d (x ∷ xs) e) p))
 
-    sound-pieced : (cs : List Cell) → All (Fine δ beats) cs → cellsSound δ cs ≡ true → Pieced δ cs
+    pub sound-pieced : (cs : List Cell) → All (Fine δ beats) cs → cellsSound δ cs ≡ true → Pieced δ cs
     unfolding cellsSound
     sound-pieced [] k e = stop
     sound-pieced (c ∷ cs) k e = chain-pieced c cs (k .0) (k .1) (go (filled δ c) (and-left (not (filled δ c)) (cellsChain δ c cs) e)) (and-right (not (filled δ c)) (cellsChain δ c cs) e)
@@ -327,12 +333,12 @@ module _ (δ : ℕ) where
         go true p = absurd (true≢false (sym p))
         go false p = refl
 
-    sound-apart : (cs : List Cell) → All (Fine δ beats) cs → cellsSound δ cs ≡ true → Pairs (Apart δ) cs
+    pub sound-apart : (cs : List Cell) → All (Fine δ beats) cs → cellsSound δ cs ≡ true → Pairs (Apart δ) cs
     unfolding cellsSound
     sound-apart [] k e = tt
     sound-apart (c ∷ cs) k e = chain-pairs c cs (k .0) (k .1) (and-right (not (filled δ c)) (cellsChain δ c cs) e)
 
-  clear-of : (n : Note) (c : Cell) → clear δ n c ≡ true → Clear δ n c
+  pub clear-of : (n : Note) (c : Cell) → clear δ n c ≡ true → Clear δ n c
   unfolding clear
   clear-of n c e = record {
     behind = λ l b o. leb-true (c .beat * δ + c .after) (n .start) (rw (eq-eqb (n .lane) (c .lane) l, eq-eqb (firstBeat δ n) (c .beat) b, o) at e);
@@ -342,9 +348,9 @@ module _ (δ : ℕ) where
 -- ---- the take
 
 -- a sound shelf's take is solid
-pub sound-solid : (H : Header) → 0 < (H .delta) → (ws : List ℕ) → chainShelf H ws ≡ true → Solid (H .delta) (takeIn (H .delta) ws)
+pub chain-solid : (H : Header) → 0 < (H .delta) → (ws : List ℕ) → chainShelf H ws ≡ true → Solid (H .delta) (takeIn (H .delta) ws)
 unfolding takeIn
-sound-solid H z ws e =
+chain-solid H z ws e =
     let p : Parts H ws = parts H ws e in
     let notes = readNotes (word ws 1) (drop 3 ws) in
     let cells = readCells (word ws 2) (drop (3 + 4 * word ws 1) ws) in
@@ -361,9 +367,10 @@ sound-solid H z ws e =
     }
 
 -- the notes of a sound shelf are its take's
-pub sound-notes : (H : Header) → 0 < (H .delta) → (ws : List ℕ) → chainShelf H ws ≡ true → notesOf H (takeIn (H .delta) ws) ≡ readNotes (word ws 1) (drop 3 ws)
+pub chain-notes : (H : Header) → 0 < (H .delta) → (ws : List ℕ) → chainShelf H ws ≡ true
+    → notesOf H (takeIn (H .delta) ws) ≡ readNotes (word ws 1) (drop 3 ws)
 unfolding takeIn notesOf
-sound-notes H z ws e =
+chain-notes H z ws e =
     let p : Parts H ws = parts H ws e in
     let notes = readNotes (word ws 1) (drop 3 ws) in
     let cells = readCells (word ws 2) (drop (3 + 4 * word ws 1) ws) in
@@ -371,20 +378,10 @@ sound-notes H z ws e =
     ∙ merge-parts (inside (H .delta)) notes (ok-sorted (H .delta) (word ws 0) notes (p .notes-ok))
 
 -- a sound shelf's words are those of its take
-pub words-again : (H : Header) → 0 < (H .delta) → (ws : List ℕ) → length ws ≡ (H .words) → chainShelf H ws ≡ true → wordsOf H (takeIn (H .delta) ws) ≡ ws
+pub chain-words : (H : Header) → 0 < (H .delta) → (ws : List ℕ) → length ws ≡ (H .words) → chainShelf H ws ≡ true
+    → wordsOf H (takeIn (H .delta) ws) ≡ ws
 unfolding wordsOf
-words-again H z ws n e =
+chain-words H z ws n e =
     let p : Parts H ws = parts H ws e in
-    ap (λ (ns : List Note). shelfWords (H .words) ((takeIn (H .delta) ws) .beats) ns ((takeIn (H .delta) ws) .cells)) (sound-notes H z ws e)
+    ap (λ (ns : List Note). shelfWords (H .words) ((takeIn (H .delta) ws) .beats) ns ((takeIn (H .delta) ws) .cells)) (chain-notes H z ws e)
     ∙ (unfold takeIn in shelf-back (H .words) ws n (p .used-ok) (p .zeros-ok))
-
--- ---- what the code of question 4 may use once ranges and order are known
-
--- the notes that the rules give from cells that passed, from left to right
-pub line-sound : (H : Header) (beats : ℕ) → (H .epsilon) ≤ (H .delta) → (cells : List Cell) → every (cellOk (H .delta) beats) cells ≡ true → cellsSound (H .delta) cells ≡ true → lineNotes H cells ≡ walkFrom H none cells
-line-sound H beats le cells e f =
-    line-from H le (sound-pieced (H .delta) beats cells (all-imp (λ c. cellOk (H .delta) beats c ≡ true) (Fine (H .delta) beats) cells (λ c. fine-of (H .delta) beats c) (every-all (cellOk (H .delta) beats) cells e)) f)
-
--- cells that passed lie apart
-pub cells-apart-of : (δ beats : ℕ) (cells : List Cell) → every (cellOk δ beats) cells ≡ true → cellsSound δ cells ≡ true → Pairs (Apart δ) cells
-cells-apart-of δ beats cells e f = sound-apart δ beats cells (all-imp (λ c. cellOk δ beats c ≡ true) (Fine δ beats) cells (λ c. fine-of δ beats c) (every-all (cellOk δ beats) cells e)) f

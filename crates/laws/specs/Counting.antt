@@ -13,22 +13,21 @@ use Rattle.model.specs.Binding.{bound, boundNext, fills, goOn, lineNotes, meet,
 use Rattle.model.specs.Lists.{consIf, keep}
 use Rattle.model.specs.Pieces.{firstBeat}
 use Rattle.model.specs.Questions.{fits}
+use Rattle.model.specs.Soundness.{soundShelf}
 use Rattle.model.specs.Takes.{Take, cellTo, leftOf, noteTo, notesOf, rightOf, splitLeft, splitRight, takeIn, word}
 use Rattle.model.specs.declared.Cell.{Cell}
 use Rattle.model.specs.declared.Header.{Header}
 use Rattle.model.specs.declared.Note.{Note}
 use Rattle.laws.specs.Booleans.{and-left, and-right, and-yes, or-right}
-use Rattle.laws.specs.Chain.{chainShelf}
-use Rattle.laws.specs.ChainSolid.{Parts, parts, sound-notes, sound-solid}
 use Rattle.laws.specs.Lists.{length-keep, length-map}
 use Rattle.laws.specs.Merging.{length-merge}
 use Rattle.laws.specs.Moving.{solid-left, solid-right}
-use Rattle.laws.specs.Order.{walk-double, walk-single, whole}
 use Rattle.laws.specs.Reading.{length-cells, length-read}
 use Rattle.laws.specs.Relations.{All, Pairs, all-imp, all-keep, all-kept}
-use Rattle.laws.specs.Rules.{Pair, Pieced, double, single, stop}
+use Rattle.laws.specs.Rules.{Pair, Pieced, double, moved-alone, moved-bound, own, single, span, stop}
 use Rattle.laws.specs.Solid.{Apart, Solid, beat-up, lane-up, side-up}
-use Rattle.laws.specs.Walk.{line-walk, linked, own, walk}
+use Rattle.laws.specs.Sound.{sound-notes, sound-solid, sound-used}
+use Rattle.laws.specs.Walk.{line-walk, linked, walk, walk-double, walk-single}
 
 -- ---- how many notes a piece adds
 
@@ -38,7 +37,8 @@ count true shown (suc n) = suc n
 count false true n = suc n
 count false false n = n
 
-length-step : (p : Note) (ns : List Note) (on-it shown : Bool) → length (cond on-it (goOn p ns) (cond shown (p ∷ ns) ns)) ≡ count on-it shown (length ns)
+length-step : (p : Note) (ns : List Note) (on-it shown : Bool)
+    → length (cond on-it (goOn p ns) (cond shown (p ∷ ns) ns)) ≡ count on-it shown (length ns)
 unfolding count
 length-step p [] true shown = refl
 length-step p (n ∷ ns) true shown = refl
@@ -133,7 +133,8 @@ module _ (H : Header) (z : 0 < (H .delta)) (le : (H .epsilon) ≤ (H .delta)) (p
       no-meet c d x a (b .0) (m .closes-it) (m .lanes-meet) (m .opens-it) (m .next-beat)
 
   -- bound in the half: bound in the whole, to a kept cell
-  half-on : (c : Cell) (cs : List Cell) → All (Apart (H .delta) c) cs → Pairs (Apart (H .delta)) cs → boundNext H c (keep q cs) ≡ true → (boundNext H c cs ≡ true) × First true cs
+  half-on : (c : Cell) (cs : List Cell) → All (Apart (H .delta) c) cs → Pairs (Apart (H .delta)) cs → boundNext H c (keep q cs) ≡ true
+      → (boundNext H c cs ≡ true) × First true cs
   half-on c [] a s e = absurd (unfold boundNext in true≢false (sym e))
   half-on c (d ∷ ds) a s e = go (q d) refl e
     where
@@ -168,11 +169,13 @@ module _ (H : Header) (z : 0 < (H .delta)) (le : (H .epsilon) ≤ (H .delta)) (p
     strong : ((b : ℕ) → p (suc b) ≡ true → p b ≡ true) → First false cs → length (walk H false (keep q cs)) < length (walk H true cs)
 
   -- a kept piece in front: its last cell c, shown s in the half and t in the whole
-  kept-step : (c : Cell) (cs : List Cell) (s t : Bool) → q c ≡ true → All (Apart (H .delta) c) cs → Pairs (Apart (H .delta)) cs → Counts cs → (s ≡ true → t ≡ true)
+  kept-step : (c : Cell) (cs : List Cell) (s t : Bool) → q c ≡ true → All (Apart (H .delta) c) cs → Pairs (Apart (H .delta)) cs → Counts cs
+      → (s ≡ true → t ≡ true)
       → count (boundNext H c (keep q cs)) s (length (walk H (boundNext H c (keep q cs)) (keep q cs))) ≤ count (boundNext H c cs) t (length (walk H (boundNext H c cs) cs))
   kept-step c cs s t k a r ih f = go (boundNext H c (keep q cs)) (boundNext H c cs) refl refl
     where
-      go : (x y : Bool) → boundNext H c (keep q cs) ≡ x → boundNext H c cs ≡ y → count x s (length (walk H x (keep q cs))) ≤ count y t (length (walk H y cs))
+      go : (x y : Bool) → boundNext H c (keep q cs) ≡ x → boundNext H c cs ≡ y
+          → count x s (length (walk H x (keep q cs))) ≤ count y t (length (walk H y cs))
       go true true e g = count-on s t (length (walk H true (keep q cs))) (length (walk H true cs)) (ih .weak true true (λ h. h) (λ h. (half-on c cs a r e) .1))
       go true false e g = absurd (true≢false (sym ((half-on c cs a r e) .0) ∙ g))
       go false true e g = count-lost s t (length (walk H false (keep q cs))) (length (walk H true cs)) (by edge)
@@ -183,7 +186,8 @@ module _ (H : Header) (z : 0 < (H .delta)) (le : (H .epsilon) ≤ (H .delta)) (p
       go false false e g = count-off s t (length (walk H false (keep q cs))) (length (walk H false cs)) f (ih .weak false false (λ h. h) (λ h. absurd (true≢false (sym h))))
 
   -- a dropped piece in front
-  drop-step : (c : Cell) (cs : List Cell) (t : Bool) → Counts cs → length (walk H false (keep q cs)) ≤ count (boundNext H c cs) t (length (walk H (boundNext H c cs) cs))
+  drop-step : (c : Cell) (cs : List Cell) (t : Bool) → Counts cs
+      → length (walk H false (keep q cs)) ≤ count (boundNext H c cs) t (length (walk H (boundNext H c cs) cs))
   drop-step c cs t ih =
       count-more (boundNext H c cs) t (length (walk H false (keep q cs))) (length (walk H (boundNext H c cs) cs)) (ih .weak false (boundNext H c cs) (λ h. absurd (true≢false (sym h))) (λ h. absurd (true≢false (sym h))))
 
@@ -197,11 +201,13 @@ module _ (H : Header) (z : 0 < (H .delta)) (le : (H .epsilon) ≤ (H .delta)) (p
   or-mono true l m f e = refl
   or-mono false l m f e = f e
 
-  length-single : (c : Cell) (cs : List Cell) (held : Bool) → fills (H .delta) c ≡ false → length (walk H held (c ∷ cs)) ≡ count (boundNext H c cs) (standsAlone H c || held) (length (walk H (boundNext H c cs) cs))
-  length-single c cs held f = ap length (walk-single H 0 z le c cs held f) ∙ length-step (own (H .delta) c) (walk H (boundNext H c cs) cs) (boundNext H c cs) (standsAlone H c || held)
+  length-single : (c : Cell) (cs : List Cell) (held : Bool) → fills (H .delta) c ≡ false
+      → length (walk H held (c ∷ cs)) ≡ count (boundNext H c cs) (standsAlone H c || held) (length (walk H (boundNext H c cs) cs))
+  length-single c cs held f = ap length (walk-single H c cs held f) ∙ length-step (own (H .delta) c) (walk H (boundNext H c cs) cs) (boundNext H c cs) (standsAlone H c || held)
 
-  length-double : (c d : Cell) (cs : List Cell) (held : Bool) → Pair (H .delta) c d → length (walk H held (c ∷ d ∷ cs)) ≡ count (boundNext H d cs) true (length (walk H (boundNext H d cs) cs))
-  length-double c d cs held w = ap length (walk-double H 0 z le c d cs held w) ∙ length-step (whole H 0 z le c d) (walk H (boundNext H d cs) cs) (boundNext H d cs) true
+  length-double : (c d : Cell) (cs : List Cell) (held : Bool) → Pair (H .delta) c d
+      → length (walk H held (c ∷ d ∷ cs)) ≡ count (boundNext H d cs) true (length (walk H (boundNext H d cs) cs))
+  length-double c d cs held w = ap length (walk-double H c d cs held w) ∙ length-step (span (H .delta) c d) (walk H (boundNext H d cs) cs) (boundNext H d cs) true
 
   counts-single : (c : Cell) (cs : List Cell) → fills (H .delta) c ≡ false → Pairs (Apart (H .delta)) (c ∷ cs) → Counts cs → Counts (c ∷ cs)
   counts-single c cs f s ih = record { weak = weak-one; strong = strong-one }
@@ -213,7 +219,8 @@ module _ (H : Header) (z : 0 < (H .delta)) (le : (H .epsilon) ≤ (H .delta)) (p
           go true e = rw (length-single c (keep q cs) l f, length-single c cs m f) (kept-step c cs (standsAlone H c || l) (standsAlone H c || m) e (s .0) (s .1) ih (or-mono (standsAlone H c) l m h))
           go false e = rw (length-single c cs m f) (low l k)
             where
-              low : (l : Bool) → (l ≡ true → q c ≡ true) → length (walk H l (keep q cs)) ≤ count (boundNext H c cs) (standsAlone H c || m) (length (walk H (boundNext H c cs) cs))
+              low : (l : Bool) → (l ≡ true → q c ≡ true)
+                  → length (walk H l (keep q cs)) ≤ count (boundNext H c cs) (standsAlone H c || m) (length (walk H (boundNext H c cs) cs))
               low true j = absurd (true≢false (sym (j refl) ∙ e))
               low false j = drop-step c cs (standsAlone H c || m) ih
 
@@ -226,18 +233,21 @@ module _ (H : Header) (z : 0 < (H .delta)) (le : (H .epsilon) ≤ (H .delta)) (p
       same : q d ≡ q c
       same = ap p (w .beat-same)
 
-      weak-two : (l m : Bool) → (l ≡ true → m ≡ true) → (l ≡ true → q c ≡ true) → length (walk H l (keep q (c ∷ d ∷ cs))) ≤ length (walk H m (c ∷ d ∷ cs))
+      weak-two : (l m : Bool) → (l ≡ true → m ≡ true) → (l ≡ true → q c ≡ true)
+          → length (walk H l (keep q (c ∷ d ∷ cs))) ≤ length (walk H m (c ∷ d ∷ cs))
       weak-two l m h k = rw same (go (q c) refl)
         where
           go : (b : Bool) → q c ≡ b → length (walk H l (consIf b c (consIf b d (keep q cs)))) ≤ length (walk H m (c ∷ d ∷ cs))
           go true e = rw (length-double c d (keep q cs) l w, length-double c d cs m w) (kept-step d cs true true (same ∙ e) (s .1 .0) (s .1 .1) ih (λ j. j))
           go false e = rw (length-double c d cs m w) (low l k)
             where
-              low : (l : Bool) → (l ≡ true → q c ≡ true) → length (walk H l (keep q cs)) ≤ count (boundNext H d cs) true (length (walk H (boundNext H d cs) cs))
+              low : (l : Bool) → (l ≡ true → q c ≡ true)
+                  → length (walk H l (keep q cs)) ≤ count (boundNext H d cs) true (length (walk H (boundNext H d cs) cs))
               low true j = absurd (true≢false (sym (j refl) ∙ e))
               low false j = drop-step d cs true ih
 
-      strong-two : ((b : ℕ) → p (suc b) ≡ true → p b ≡ true) → q c ≡ false → length (walk H false (keep q (c ∷ d ∷ cs))) < length (walk H true (c ∷ d ∷ cs))
+      strong-two : ((b : ℕ) → p (suc b) ≡ true → p b ≡ true) → q c ≡ false
+          → length (walk H false (keep q (c ∷ d ∷ cs))) < length (walk H true (c ∷ d ∷ cs))
       strong-two f k = rw (same, k, length-double c d cs true w) (strong-step d cs ih f (same ∙ k))
 
   counts : {cs : List Cell} → Pieced (H .delta) cs → Pairs (Apart (H .delta)) cs → Counts cs
@@ -266,27 +276,24 @@ module _ (H : Header) (k : ℕ) where
       ]
 
   bound-back : (c : Cell) (cs : List Cell) → k ≤ c .beat → All (λ d. k ≤ d .beat) cs → boundNext H (back c) (map back cs) ≡ boundNext H c cs
-  unfolding boundNext bound standsAlone
+  unfolding boundNext
   bound-back c [] a b = refl
-  bound-back c (d ∷ ds) a b = ap (λ (t : Bool). t && bound H c d) (meet-back c d a (b .0))
+  bound-back c (d ∷ ds) a b = ap₂ _&&_ (meet-back c d a (b .0)) (moved-bound H (c .beat - k) (d .beat - k) c d)
 
   link-back : (c : Cell) (cs : List Cell) → k ≤ c .beat → All (λ d. k ≤ d .beat) cs → linked H (back c) (map back cs) ≡ linked H c cs
   unfolding linked fills
   link-back c cs a b = ap (λ (t : Bool). fills (H .delta) c || t) (bound-back c cs a b)
 
-  length-walk : (c : Cell) (cs : List Cell) (held : Bool) → length (walk H held (c ∷ cs)) ≡ count (linked H c cs) (standsAlone H c || held) (length (walk H (linked H c cs) cs))
+  length-walk : (c : Cell) (cs : List Cell) (held : Bool)
+      → length (walk H held (c ∷ cs)) ≡ count (linked H c cs) (standsAlone H c || held) (length (walk H (linked H c cs) cs))
   unfolding walk
   length-walk c cs held = length-step (own (H .delta) c) (walk H (linked H c cs) cs) (linked H c cs) (standsAlone H c || held)
-
-  alone-back : (c : Cell) → standsAlone H (back c) ≡ standsAlone H c
-  unfolding standsAlone
-  alone-back c = refl
 
   pub walk-back : (cs : List Cell) (held : Bool) → All (λ d. k ≤ d .beat) cs → length (walk H held (map back cs)) ≡ length (walk H held cs)
   walk-back [] held a = refl
   walk-back (c ∷ cs) held a =
       length-walk (back c) (map back cs) held
-      ∙ ap₂ (λ (t u : Bool). count t (u || held) (length (walk H t (map back cs)))) (link-back c cs (a .0) (a .1)) (alone-back c)
+      ∙ ap₂ (λ (t u : Bool). count t (u || held) (length (walk H t (map back cs)))) (link-back c cs (a .0) (a .1)) (moved-alone H (c .beat - k) c)
       ∙ ap (count (linked H c cs) (standsAlone H c || held)) (walk-back cs (linked H c cs) (a .1)) ∙ sym (length-walk c cs held)
 
 -- ---- takes
@@ -365,13 +372,12 @@ less-fits H t u l e =
     let b = l .fewer-cells in
     le-leb (3 + 4 * length (notesOf H t) + 6 * length (t .cells)) (H .words) (omega arith)
 
-module _ (H : Header) (z : 0 < (H .delta)) (le : (H .epsilon) ≤ (H .delta)) (ws : List ℕ) (e : chainShelf H ws ≡ true) where
+module _ (H : Header) (z : 0 < (H .delta)) (le : (H .epsilon) ≤ (H .delta)) (ws : List ℕ) (e : soundShelf H ws ≡ true) where
   -- a sound shelf's take fits
   pub sound-fits : fits H (takeIn (H .delta) ws) ≡ true
   unfolding fits
   sound-fits =
-      let p : Parts H ws = parts H ws e in
-      let u : 3 + 4 * word ws 1 + 6 * word ws 2 ≤ (H .words) = p .used-ok in
+      let u : 3 + 4 * word ws 1 + 6 * word ws 2 ≤ (H .words) = sound-used H z ws e in
       let a : length (notesOf H (takeIn (H .delta) ws)) ≡ word ws 1 = ap length (sound-notes H z ws e) ∙ length-read (word ws 1) (drop 3 ws) in
       let b : length ((takeIn (H .delta) ws) .cells) ≡ word ws 2 = unfold takeIn in length-cells (word ws 2) (drop (3 + 4 * word ws 1) ws) in
       le-leb (3 + 4 * length (notesOf H (takeIn (H .delta) ws)) + 6 * length ((takeIn (H .delta) ws) .cells)) (H .words) (omega arith)

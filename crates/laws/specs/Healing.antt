@@ -1,20 +1,20 @@
 -- A recording's take has the recording's notes: every line inside a note binds, and no line at a note's end does.
 -- Assumes nothing.
-use mathlib.Core.Bool.{Bool, _&&_, _||_, cond, false, not, true, true≢false}
+use mathlib.Core.Bool.{Bool, _||_, cond, false, not, true, true≢false}
 use mathlib.Core.List.{List, [], _++_, _∷_}
 use mathlib.Core.Path.{_∙_, _≡_, ap, refl, subst, sym}
 use Prim.Native.Nat.{_*_, _+_, _-_, _/_, _<_, _≤_, suc, zero, ℕ}
 use native.Mathlib.Decide.{decLe}
 use native.Mathlib.Nat.{div-lt-iff-lt-mul, le-div-iff-mul-le}
 use native.Mathlib.Omega.{arith}
-use lib.Dec.{eqb, leb, ltb}
-use borrow.Author.Tests.{eq-eqb, le-leb, leb-false, leb-true, lt-leb, lt-ltb, ltb-true}
+use lib.Dec.{leb, ltb}
+use borrow.Author.Tests.{eq-eqb, le-leb, leb-false, leb-true, lt-leb, ltb-true}
 use Rattle.model.specs.Binding.{Piece, bound, boundNext, endOf, fills, firstShown, lineNotes, meet, pieces, runs, standsAlone, startOf}
 use Rattle.model.specs.Histories.{Recording, recordingTake}
 use Rattle.model.specs.Lists.{consIf, countFrom, gather, keep}
 use Rattle.model.specs.Pieces.{cellAt, cellsInBeat, cellsOfNote, inside, insideAt}
 use Rattle.model.specs.Soundness.{notesOk}
-use Rattle.model.specs.Takes.{merge, notesOf}
+use Rattle.model.specs.Takes.{merge, notesOf, shelfWords, wordsOf}
 use Rattle.model.specs.declared.Cell.{Cell}
 use Rattle.model.specs.declared.Header.{Header}
 use Rattle.model.specs.declared.Note.{Note}
@@ -23,7 +23,7 @@ use Rattle.laws.specs.Booleans.{and-left, and-right, and-yes, or-left, o
 use Rattle.laws.specs.Merging.{merge-parts}
 use Rattle.laws.specs.Notes.{long-notes, note-same, ok-sorted}
 use Rattle.laws.specs.Relations.{All}
-use Rattle.laws.specs.Rules.{Fresh, close-alone, fresh-free, not-open, open-free, step-fill, step-single}
+use Rattle.laws.specs.Rules.{Fresh, close-alone, fresh-free, not-open, open-alone, open-free, same-bound, step-fill, step-single}
 
 -- The first piece is shown, and the notes are m and then ns.
 record Healed (ps : List Piece) (m : Note) (ns : List Note) : Type 0 where
@@ -56,26 +56,18 @@ module _ (H : Header) (z : 0 < (H .delta)) (n : Note) where
   rest k b = gather (cellsInBeat (H .delta) n) (countFrom (suc k) b)
 
   open-held : (b : ℕ) (left : Bool) → n .start ≤ b * (H .delta) → (n .start < b * (H .delta) → left ≡ true) → standsAlone H (openC b) || left ≡ true
-  unfolding standsAlone cellAt
+  unfolding cellAt
   open-held b left h l = elim (decLe (suc (n .start)) (b * (H .delta))) [
     | yes a ↦ or-right (standsAlone H (openC b)) (l a)
-    | no a ↦ or-left left (or-right (leb (H .epsilon) (n .end - b * (H .delta))) (eq-eqb (b * (H .delta) - n .start) 0 (omega arith)))
+    | no a ↦ or-left left (open-alone H (openC b) refl (omega arith))
   ]
 
   bound-same : (b : ℕ) → n .start < suc b * (H .delta) → suc b * (H .delta) < n .end → bound H (closeC b) (openC (suc b)) ≡ true
-  unfolding bound cellAt
-  bound-same b h l = go (standsAlone H (closeC b)) (standsAlone H (openC (suc b)))
-    where
-      go : (t u : Bool)
-          → cond t (cond u (ltb 0 (n .end - suc b * (H .delta)) && ltb 0 (suc b * (H .delta) - n .start)) true)
-          (cond u true (eqb (suc b * (H .delta) - n .start) (suc b * (H .delta) - n .start) && eqb (n .end - suc b * (H .delta)) (n .end - suc b * (H .delta)) || leb (H .epsilon) (suc b * (H .delta) - n .start + (n .end - suc b * (H .delta)))))
-          ≡ true
-      go true true = rw (lt-ltb 0 (n .end - suc b * (H .delta)) (omega arith), lt-ltb 0 (suc b * (H .delta) - n .start) (omega arith))
-      go true false = refl
-      go false true = refl
-      go false false = rw (eq-eqb (suc b * (H .delta) - n .start) (suc b * (H .delta) - n .start) refl, eq-eqb (n .end - suc b * (H .delta)) (n .end - suc b * (H .delta)) refl)
+  unfolding cellAt
+  bound-same b h l = same-bound H (closeC b) (openC (suc b)) refl refl (omega arith) (omega arith)
 
-  bound-next : (k b : ℕ) (cs : List Cell) → n .start < suc b * (H .delta) → suc b * (H .delta) < n .end → boundNext H (closeC b) (rest k (suc b) ++ cs) ≡ true
+  bound-next : (k b : ℕ) (cs : List Cell) → n .start < suc b * (H .delta) → suc b * (H .delta) < n .end
+      → boundNext H (closeC b) (rest k (suc b) ++ cs) ≡ true
   unfolding boundNext cellsInBeat meet
   bound-next k b cs h l =
       rw (le-leb (n .start) (suc b * (H .delta)) (omega arith), bound-same b h l, eq-eqb (n .lane) (n .lane) refl, eq-eqb (suc b) (suc b) refl)
@@ -103,7 +95,8 @@ module _ (H : Header) (z : 0 < (H .delta)) (n : Note) where
     unfolding cellsInBeat startOf endOf
     heal zero b left h l m t q = go (leb (n .start) (b * (H .delta))) (leb (suc b * (H .delta)) (n .end)) refl refl
       where
-        go : (t u : Bool) → leb (n .start) (b * (H .delta)) ≡ t → leb (suc b * (H .delta)) (n .end) ≡ u → Healed (pieces H left (rest 0 b ++ cs)) (from b) (runs (pieces H false cs))
+        go : (t u : Bool) → leb (n .start) (b * (H .delta)) ≡ t → leb (suc b * (H .delta)) (n .end) ≡ u
+            → Healed (pieces H left (rest 0 b ++ cs)) (from b) (runs (pieces H false cs))
         go true true e g =
             let gt : suc b * (H .delta) ≤ n .end = leb-true (suc b * (H .delta)) (n .end) g in
             let af : n .end - suc b * (H .delta) ≡ 0 = omega arith in
@@ -127,7 +120,8 @@ module _ (H : Header) (z : 0 < (H .delta)) (n : Note) where
     heal (suc k) b left h l m t q =
         go (leb (n .start) (b * (H .delta))) refl (heal k (suc b) true (omega arith) (omega arith) (omega arith) (λ a. absurd (omega arith)) (λ a. refl))
       where
-        go : (t : Bool) → leb (n .start) (b * (H .delta)) ≡ t → Healed (pieces H true (rest k (suc b) ++ cs)) (from (suc b)) (runs (pieces H false cs))
+        go : (t : Bool) → leb (n .start) (b * (H .delta)) ≡ t
+            → Healed (pieces H true (rest k (suc b) ++ cs)) (from (suc b)) (runs (pieces H false cs))
             → Healed (pieces H left (rest (suc k) b ++ cs)) (from b) (runs (pieces H false cs))
         go true e ih =
             let le : n .start ≤ b * (H .delta) = leb-true (n .start) (b * (H .delta)) e in
@@ -191,7 +185,8 @@ module _ (H : Header) (z : 0 < (H .delta)) where
       let k : suc E - B ≡ suc (E - B) = omega arith in
       rw k (go (E - B) (leb s (B * (H .delta))) refl)
     where
-      go : (k : ℕ) (t : Bool) → leb (n .start) (n .start / (H .delta) * (H .delta)) ≡ t → Fresh (gather (cellsInBeat (H .delta) n) (countFrom (suc k) (n .start / (H .delta))) ++ cs)
+      go : (k : ℕ) (t : Bool) → leb (n .start) (n .start / (H .delta) * (H .delta)) ≡ t
+          → Fresh (gather (cellsInBeat (H .delta) n) (countFrom (suc k) (n .start / (H .delta))) ++ cs)
       go k true g = rw g (λ o. let ls : n .start / (H .delta) * (H .delta) ≤ n .start = low (H .delta) (n .start) in omega arith)
       go k false g = rw (g, le-leb (suc (n .start / (H .delta)) * (H .delta)) (n .end) (touch-line (H .delta) n e (leb-false (n .start) (n .start / (H .delta) * (H .delta)) g))) (λ o. absurd (true≢false (sym o)))
 
@@ -200,24 +195,34 @@ module _ (H : Header) (z : 0 < (H .delta)) where
   fresh [] v = tt
   fresh (n ∷ ns) v = go (inside (H .delta) n) refl (fresh ns (v .1))
     where
-      go : (b : Bool) → inside (H .delta) n ≡ b → Fresh (gather (cellsOfNote (H .delta)) ns) → Fresh (cellsOfNote (H .delta) n ++ gather (cellsOfNote (H .delta)) ns)
+      go : (b : Bool) → inside (H .delta) n ≡ b → Fresh (gather (cellsOfNote (H .delta)) ns)
+          → Fresh (cellsOfNote (H .delta) n ++ gather (cellsOfNote (H .delta)) ns)
       go true e f = rw (no-cells (H .delta) z n (v .0) e) f
       go false e f = fresh-note n (gather (cellsOfNote (H .delta)) ns) (v .0) e
 
   -- the notes that the rules give from a recording's cells are its notes that touch a line
-  pub lines-again : (ns : List Note) → All (λ n. n .start < n .end) ns → lineNotes H (gather (cellsOfNote (H .delta)) ns) ≡ keep (λ n. not (inside (H .delta) n)) ns
+  pub lines-again : (ns : List Note) → All (λ n. n .start < n .end) ns
+      → lineNotes H (gather (cellsOfNote (H .delta)) ns) ≡ keep (λ n. not (inside (H .delta) n)) ns
   unfolding lineNotes
   lines-again [] v = refl
   lines-again (n ∷ ns) v = go (inside (H .delta) n) refl (lines-again ns (v .1))
     where
-      go : (b : Bool) → inside (H .delta) n ≡ b → runs (pieces H false (gather (cellsOfNote (H .delta)) ns)) ≡ keep (λ n. not (inside (H .delta) n)) ns
+      go : (b : Bool) → inside (H .delta) n ≡ b
+          → runs (pieces H false (gather (cellsOfNote (H .delta)) ns)) ≡ keep (λ n. not (inside (H .delta) n)) ns
           → runs (pieces H false (cellsOfNote (H .delta) n ++ gather (cellsOfNote (H .delta)) ns)) ≡ consIf (not b) n (keep (λ n. not (inside (H .delta) n)) ns)
       go true e ih = rw (no-cells (H .delta) z n (v .0) e) ih
       go false e ih = (heal-note n (gather (cellsOfNote (H .delta)) ns) (fresh ns (v .1)) (v .0) e) .notes ∙ ap (_∷_ n) ih
 
 -- a recording's take has its notes
-pub notes-again : (H : Header) → 0 < (H .delta) → (r : Recording) → notesOk (H .delta) (r .beats) (r .notes) ≡ true → notesOf H (recordingTake (H .delta) r) ≡ r .notes
+pub notes-again : (H : Header) → 0 < (H .delta) → (r : Recording) → notesOk (H .delta) (r .beats) (r .notes) ≡ true
+    → notesOf H (recordingTake (H .delta) r) ≡ r .notes
 unfolding notesOf recordingTake
 notes-again H z r e =
     ap (merge (keep (inside (H .delta)) (r .notes))) (lines-again H z (r .notes) (long-notes (H .delta) (r .beats) (r .notes) e))
     ∙ merge-parts (inside (H .delta)) (r .notes) (ok-sorted (H .delta) (r .beats) (r .notes) e)
+
+-- and so its words are its own notes and all its cells
+pub laid-words : (H : Header) (r : Recording) → notesOf H (recordingTake (H .delta) r) ≡ r .notes
+    → wordsOf H (recordingTake (H .delta) r) ≡ shelfWords (H .words) (r .beats) (r .notes) (gather (cellsOfNote (H .delta)) (r .notes))
+unfolding wordsOf recordingTake
+laid-words H r e = ap (λ (ns : List Note). shelfWords (H .words) (r .beats) ns (gather (cellsOfNote (H .delta)) (r .notes))) e

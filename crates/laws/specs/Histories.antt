@@ -107,7 +107,8 @@ module _ {A : Type 0} (beat : A → ℕ) (to : ℕ → A → A)
     left-all k h = keep-byLane lane (λ x. ltb (beat x) k) (placed beat to of 0 h) ∙ ap (byLane lane) (rw zero-add at (left-placed k 0 h))
 
     -- the pairs behind the first k
-    pub right-all : (k : ℕ) (h : List (ℕ × ℕ)) → rightOf beat to k (byLane lane (placed beat to of 0 h)) ≡ byLane lane (placed beat to of 0 (drop k h))
+    pub right-all : (k : ℕ) (h : List (ℕ × ℕ))
+        → rightOf beat to k (byLane lane (placed beat to of 0 h)) ≡ byLane lane (placed beat to of 0 (drop k h))
     unfolding rightOf
     right-all k h =
         ap (map (λ x. to (beat x - k) x)) (keep-byLane lane (λ x. leb k (beat x)) (placed beat to of 0 h))
@@ -115,7 +116,8 @@ module _ {A : Type 0} (beat : A → ℕ) (to : ℕ → A → A)
         ∙ ap (byLane lane) (rw zero-add at (right-placed k 0 h))
 
     -- one history behind the other
-    pub join-all : (h g : List (ℕ × ℕ)) → byLane lane (byLane lane (placed beat to of 0 h) ++ laterBy beat to (length h) (byLane lane (placed beat to of 0 g))) ≡ byLane lane (placed beat to of 0 (h ++ g))
+    pub join-all : (h g : List (ℕ × ℕ))
+        → byLane lane (byLane lane (placed beat to of 0 h) ++ laterBy beat to (length h) (byLane lane (placed beat to of 0 g))) ≡ byLane lane (placed beat to of 0 (h ++ g))
     unfolding laterBy
     join-all h g =
         ap (λ (ys : List A). byLane lane (byLane lane (placed beat to of 0 h) ++ ys))

@@ -18,7 +18,8 @@ use Rattle.laws.specs.Solid.{Apart, Fine, Solid, beat-up, lane-up, side-
 use Rattle.laws.specs.Walk.{line-from, walkFrom}
 
 -- a solid take's notes: the inner ones, and those of one walk over the cells
-pub solid-from : (H : Header) → (H .epsilon) ≤ (H .delta) → (t : Take) → Solid (H .delta) t → notesOf H t ≡ merge (t .inner) (walkFrom H none (t .cells))
+pub solid-from : (H : Header) → (H .epsilon) ≤ (H .delta) → (t : Take) → Solid (H .delta) t
+    → notesOf H t ≡ merge (t .inner) (walkFrom H none (t .cells))
 unfolding notesOf
 solid-from H le t s = ap (merge (t .inner)) (line-from H le (s .cells-pieced))
 
@@ -66,13 +67,15 @@ module _ (δ : ℕ) (t u : Take) (s : Solid δ t) (r : Solid δ u) where
 -- ---- an inner note in another beat, with no division
 
 module _ (δ : ℕ) (n : Note) (v : n .start ≤ n .end) where
-  pub later-note : (k : ℕ) → noteTo δ (k + firstBeat δ n) n ≡ record { lane = n .lane; start = n .start + k * δ; end = n .end + k * δ; velocity = n .velocity }
+  pub later-note : (k : ℕ)
+      → noteTo δ (k + firstBeat δ n) n ≡ record { lane = n .lane; start = n .start + k * δ; end = n .end + k * δ; velocity = n .velocity }
   later-note k =
       let d : n .start / δ * δ + n .start % δ ≡ n .start = div-add-mod' (n .start) δ in
       let m : (k + firstBeat δ n) * δ ≡ k * δ + firstBeat δ n * δ = add-mul k (firstBeat δ n) δ in
       note-same refl (omega arith) (omega arith) refl
 
-  pub back-note : (k : ℕ) → k ≤ firstBeat δ n → noteTo δ (firstBeat δ n - k) n ≡ record { lane = n .lane; start = n .start - k * δ; end = n .end - k * δ; velocity = n .velocity }
+  pub back-note : (k : ℕ) → k ≤ firstBeat δ n
+      → noteTo δ (firstBeat δ n - k) n ≡ record { lane = n .lane; start = n .start - k * δ; end = n .end - k * δ; velocity = n .velocity }
   back-note k h =
       let d : n .start / δ * δ + n .start % δ ≡ n .start = div-add-mod' (n .start) δ in
       let m : (k + (firstBeat δ n - k)) * δ ≡ k * δ + (firstBeat δ n - k) * δ = add-mul k (firstBeat δ n - k) δ in

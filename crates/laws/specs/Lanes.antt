@@ -127,7 +127,8 @@ module _ {A : Type 0} where
   all-moved P Q f [] h a = tt
   all-moved P Q f (x ∷ xs) h a = (h x (a .0), all-moved P Q f xs h (a .1))
 
-  pub pairs-moved : (P : A → Type 0) (R : A → A → Type 0) (f : A → A) (xs : List A) → ((x y : A) → P x → P y → R x y → R (f x) (f y)) → All P xs → Pairs R xs → Pairs R (map f xs)
+  pub pairs-moved : (P : A → Type 0) (R : A → A → Type 0) (f : A → A) (xs : List A) → ((x y : A) → P x → P y → R x y → R (f x) (f y)) → All P xs
+      → Pairs R xs → Pairs R (map f xs)
   pairs-moved P R f [] h a s = tt
   pairs-moved P R f (x ∷ xs) h a s =
       (all-moved (λ y. P y × R x y) (R (f x)) f xs (λ y k. h x y (a .0) (k .0) (k .1)) (all-both P (R x) xs (a .1) (s .0)), pairs-moved P R f xs h (a .1) (s .1))

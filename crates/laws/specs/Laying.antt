@@ -52,7 +52,8 @@ module _ {A : Type 0} (lane beat : A → ℕ) (to : ℕ → A → A) (of : ℕ �
       (all-keep (λ x. beat x < n) (λ x. eqb (lane x) l) xs (all-imp (Ranged lane beat to n) (λ x. beat x < n) xs (λ x h. h .1) a))
 
   -- what a recording's own pairs give
-  pub lay-all : (n : ℕ) → Pairs (Ordered lane beat to) (of r) → All (Ranged lane beat to n) (of r) → byLane lane (placed beat to of 0 (pairsOf r n 0)) ≡ of r
+  pub lay-all : (n : ℕ) → Pairs (Ordered lane beat to) (of r) → All (Ranged lane beat to n) (of r)
+      → byLane lane (placed beat to of 0 (pairsOf r n 0)) ≡ of r
   unfolding byLane
   lay-all n s a =
       let xs = of r in
@@ -60,16 +61,18 @@ module _ {A : Type 0} (lane beat : A → ℕ) (to : ℕ → A → A) (of : ℕ �
       ∙ buckets lane xs 2048 (pairs-imp (Ordered lane beat to) (λ x y. lane x ≤ lane y) xs (λ x y o. o .0) s)
       (all-imp (Ranged lane beat to n) (λ x. lane x < 2048) xs (λ x h. h .0) a)
 
-  pub lay-is : (n : ℕ) (xs : List A) → of r ≡ xs → Pairs (Ordered lane beat to) xs → All (Ranged lane beat to n) xs → byLane lane (placed beat to of 0 (pairsOf r n 0)) ≡ xs
+  pub lay-is : (n : ℕ) (xs : List A) → of r ≡ xs → Pairs (Ordered lane beat to) xs → All (Ranged lane beat to n) xs
+      → byLane lane (placed beat to of 0 (pairsOf r n 0)) ≡ xs
   lay-is n xs e s a = lay-all n (subst (Pairs (Ordered lane beat to)) (sym e) s) (subst (All (Ranged lane beat to n)) (sym e) a) ∙ e
 
-length-pairsOf : (r k b : ℕ) → length (pairsOf r k b) ≡ k
+pub length-pairsOf : (r k b : ℕ) → length (pairsOf r k b) ≡ k
 length-pairsOf r zero b = refl
 length-pairsOf r (suc k) b = ap suc (length-pairsOf r k (suc b))
 
 module _ (δ : ℕ) (z : 0 < δ) where
   -- a recording is what its own pairs give
-  pub lay : (recordings : List Recording) (i : ℕ) (r : Recording) → takeOf δ recordings i ≡ recordingTake δ r → r .beats ≤ 4096 → notesOk δ (r .beats) (r .notes) ≡ true
+  pub lay : (recordings : List Recording) (i : ℕ) (r : Recording) → takeOf δ recordings i ≡ recordingTake δ r → r .beats ≤ 4096
+      → notesOk δ (r .beats) (r .notes) ≡ true
       → historyTake δ recordings (pairsOf i (r .beats) 0) ≡ recordingTake δ r
   unfolding historyTake recordingTake
   lay recordings i r g b e =

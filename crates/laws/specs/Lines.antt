@@ -144,7 +144,8 @@ module _ (H : Header) (z : 0 < (H .delta)) where
   first-starts {c} {cs} (single f g p) left = rw (step-single H c cs left f) refl
   first-starts (double {c = c} {d = d} {cs = cs} q p) left = rw (step-fill H c d cs left (pair-fills (H .delta) c d q) (q .opens) (pair-close (H .delta) c d q)) refl
 
-  bound-starts : (c : Cell) (cs : List Cell) → Pieced (H .delta) cs → (left : Bool) → boundNext H c cs ≡ true → Starts (endOf (H .delta) c) (pieces H left cs)
+  bound-starts : (c : Cell) (cs : List Cell) → Pieced (H .delta) cs → (left : Bool) → boundNext H c cs ≡ true
+      → Starts (endOf (H .delta) c) (pieces H left cs)
   unfolding boundNext
   bound-starts c [] p left e = unfold pieces in tt
   bound-starts c (d ∷ ds) p left e =

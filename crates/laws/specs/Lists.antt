@@ -7,7 +7,7 @@ use mathlib.Core.Path.{_∙_, _≡_, ap, refl, sym}
 use Prim.Native.Nat.{_+_, _<_, _≤_, suc, zero, ℕ}
 use native.Mathlib.Decide.{ℕ-discrete}
 use native.Mathlib.Omega.{arith}
-use lib.ListN.{length}
+use lib.ListN.{getD, length, set}
 use Rattle.model.specs.Lists.{consIf, countFrom, gather, keep}
 use Rattle.laws.specs.Booleans.{and-comm}
 
@@ -102,3 +102,14 @@ length-keep p (x ∷ xs) = go (p x) (length-keep p xs)
 pub length-map : {A B : Type 0} (f : A → B) (xs : List A) → length (map f xs) ≡ length xs
 length-map f [] = refl
 length-map f (x ∷ xs) = ap suc (length-map f xs)
+
+module _ {A B : Type 0} where
+  pub map-set : (f : A → B) (xs : List A) (i : ℕ) (a : A) → map f (set xs i a) ≡ set (map f xs) i (f a)
+  map-set f [] i a = refl
+  map-set f (x ∷ xs) zero a = refl
+  map-set f (x ∷ xs) (suc i) a = ap (_∷_ (f x)) (map-set f xs i a)
+
+  pub getD-map : (f : A → B) (xs : List A) (i : ℕ) (d : A) (e : B) → i < length xs → getD (map f xs) i e ≡ f (getD xs i d)
+  getD-map f [] i d e h = absurd (omega arith)
+  getD-map f (x ∷ xs) zero d e h = refl
+  getD-map f (x ∷ xs) (suc i) d e h = getD-map f xs i d e (omega arith)

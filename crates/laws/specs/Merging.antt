@@ -48,7 +48,8 @@ module _ (p : Note → Bool) where
 
 -- ---- what the merged notes keep
 
-all-weave : (P : Note → Type 0) (x : Note) (more : List Note → List Note) → P x → ((ys : List Note) → All P ys → All P (more ys)) → (ys : List Note) → All P ys → All P (weave x more ys)
+all-weave : (P : Note → Type 0) (x : Note) (more : List Note → List Note) → P x → ((ys : List Note) → All P ys → All P (more ys)) → (ys : List Note)
+    → All P ys → All P (weave x more ys)
 unfolding weave
 all-weave P x more h f [] a = (h, f [] a)
 all-weave P x more h f (y ∷ ys) a = go (noteBefore x y) refl (all-weave P x more h f ys (a .1))
@@ -72,7 +73,8 @@ second-of x y v w (left f) e = absurd (true≢false (sym ((before x y v f) .0) �
 
 weave-pairs : (x : Note) (xs : List Note) → Long x → All Long xs → All (Follow x) xs
     → ((ys : List Note) → All Long ys → Pairs Follow ys → All (λ m. All (Away m) ys) xs → Pairs Follow (merge xs ys))
-    → (ys : List Note) → All Long ys → Pairs Follow ys → All (Away x) ys → All (λ m. All (Away m) ys) xs → Pairs Follow (weave x (λ zs. merge xs zs) ys)
+    → (ys : List Note) → All Long ys → Pairs Follow ys → All (Away x) ys → All (λ m. All (Away m) ys) xs
+    → Pairs Follow (weave x (λ zs. merge xs zs) ys)
 unfolding weave
 weave-pairs x xs v vs a f [] w p b c = (all-merge (Follow x) xs [] a tt, f [] w p c)
 weave-pairs x xs v vs a f (y ∷ ys) w p b c = go (noteBefore x y) refl (weave-pairs x xs v vs a f ys (w .1) (p .1) (b .1) (all-imp (λ m. All (Away m) (y ∷ ys)) (λ m. All (Away m) ys) xs (λ m h. h .1) c))
@@ -85,7 +87,8 @@ weave-pairs x xs v vs a f (y ∷ ys) w p b c = go (noteBefore x y) refl (weave-p
         let g : Follow y x = second-of x y v (w .0) (b .0) e in
         rw (e, weave) (all-weave (Follow y) x (λ zs. merge xs zs) g (λ zs h. all-merge (Follow y) xs zs (all-imp (Follow x) (Follow y) xs (λ m k. follow-trans y x m v g k) a) h) ys (p .0), ih)
 
-pub merge-pairs : (xs ys : List Note) → All Long xs → All Long ys → Pairs Follow xs → Pairs Follow ys → All (λ m. All (Away m) ys) xs → Pairs Follow (merge xs ys)
+pub merge-pairs : (xs ys : List Note) → All Long xs → All Long ys → Pairs Follow xs → Pairs Follow ys → All (λ m. All (Away m) ys) xs
+    → Pairs Follow (merge xs ys)
 unfolding merge
 merge-pairs [] ys v w p q a = q
 merge-pairs (x ∷ xs) ys v w p q a = weave-pairs x xs (v .0) (v .1) (p .0) (λ zs u r b. merge-pairs xs zs (v .1) u (p .1) r b) ys w q (a .0) (a .1)
@@ -108,13 +111,15 @@ unfolding merge
 merge-parts p [] s = refl
 merge-parts p (n ∷ ns) s = go (p n) (merge-parts p ns (s .1))
   where
-    go : (b : Bool) → merge (keep p ns) (keep (λ n. not (p n)) ns) ≡ ns → merge (consIf b n (keep p ns)) (consIf (not b) n (keep (λ n. not (p n)) ns)) ≡ n ∷ ns
+    go : (b : Bool) → merge (keep p ns) (keep (λ n. not (p n)) ns) ≡ ns
+        → merge (consIf b n (keep p ns)) (consIf (not b) n (keep (λ n. not (p n)) ns)) ≡ n ∷ ns
     go true ih = merge-first n (keep p ns) (keep (λ n. not (p n)) ns) (all-keep (Before n) (λ n. not (p n)) ns (s .0)) ∙ ap (_∷_ n) ih
     go false ih = merge-second n (keep p ns) (keep (λ n. not (p n)) ns) (all-keep (Before n) p ns (s .0)) ∙ ap (_∷_ n) ih
 
 -- ---- length
 
-length-weave : (x : Note) (n : ℕ) (more : List Note → List Note) → ((ys : List Note) → length (more ys) ≡ n + length ys) → (ys : List Note) → length (weave x more ys) ≡ suc n + length ys
+length-weave : (x : Note) (n : ℕ) (more : List Note → List Note) → ((ys : List Note) → length (more ys) ≡ n + length ys) → (ys : List Note)
+    → length (weave x more ys) ≡ suc n + length ys
 unfolding weave
 length-weave x n more f [] = let e = f [] in omega arith
 length-weave x n more f (y ∷ ys) = go (noteBefore x y) refl (length-weave x n more f ys)

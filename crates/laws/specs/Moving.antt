@@ -23,7 +23,7 @@ use Rattle.laws.specs.Beats.{div-mono, inside-high, inside-low, inside-t
 use Rattle.laws.specs.Histories.{join-takes}
 use Rattle.laws.specs.Lanes.{all-both, all-byLane, all-moved, pairs-byLane, pairs-moved}
 use Rattle.laws.specs.Notes.{Fair, Follow, above, later}
-use Rattle.laws.specs.OneNote.{pieced-append, pieced-count, pieced-keep, solid-recording}
+use Rattle.laws.specs.OneNote.{Valid, pieced-append, pieced-count, pieced-keep, solid-recording}
 use Rattle.laws.specs.Relations.{All, all-all, all-append, all-imp, all-keep, all-kept, all-kept-imp, pairs-append, pairs-imp, pairs-keep}
 use Rattle.laws.specs.Rules.{Pieced, double, single, stop}
 use Rattle.laws.specs.Solid.{Apart, Clear, Fine, Solid, beat-up, lane-up, side-up}
@@ -179,7 +179,8 @@ module _ (δ : ℕ) (z : 0 < δ) where
         le3 : (a b c d : ℕ) → a < b → b ≡ c → c ≤ d → a ≤ d
         le3 a b c d p q r = omega arith
 
-    pub solid-move : (t : Take) → Solid δ t → (more : ℕ) → All (λ n. D (firstBeat δ n)) (t .inner) → All (λ c. D (c .beat)) (t .cells) → ((b : ℕ) → D b → g b < more)
+    pub solid-move : (t : Take) → Solid δ t → (more : ℕ) → All (λ n. D (firstBeat δ n)) (t .inner) → All (λ c. D (c .beat)) (t .cells)
+        → ((b : ℕ) → D b → g b < more)
         → Solid δ (record { beats = more; inner = map noteMove (t .inner); cells = map cellMove (t .cells) })
     solid-move t s more dn dc h =
         let is : All Inner (t .inner) =
@@ -212,7 +213,8 @@ module _ (δ : ℕ) (z : 0 < δ) where
   cellLane c = c .lane
 
   -- t's beats lie before u's
-  pub solid-beside : (t u : Take) → Solid δ t → Solid δ u → t .beats ≤ u .beats → All (λ n. t .beats ≤ firstBeat δ n) (u .inner) → All (λ c. t .beats ≤ c .beat) (u .cells)
+  pub solid-beside : (t u : Take) → Solid δ t → Solid δ u → t .beats ≤ u .beats → All (λ n. t .beats ≤ firstBeat δ n) (u .inner)
+      → All (λ c. t .beats ≤ c .beat) (u .cells)
       → Solid δ (record { beats = u .beats; inner = byLane (λ n. n .lane) (t .inner ++ u .inner); cells = byLane (λ c. c .lane) (t .cells ++ u .cells) })
   solid-beside t u s r le un uc =
       let ti = t .inner in
@@ -294,12 +296,8 @@ module _ (δ : ℕ) (z : 0 < δ) where
 
   -- ---- histories
 
-  -- A recording as lay and load take it.
-  abbrev pub Valid : Recording → Type 0
-  Valid r = (r .beats ≤ 4096) × (notesOk δ (r .beats) (r .notes) ≡ true)
-
-  module _ (recordings : List Recording) (v : All Valid recordings) where
-    valid-at : (rs : List Recording) → All Valid rs → (r : ℕ) → Valid (getD rs r (record { beats = 0; notes = [] }))
+  module _ (recordings : List Recording) (v : All (Valid δ) recordings) where
+    valid-at : (rs : List Recording) → All (Valid δ) rs → (r : ℕ) → Valid δ (getD rs r (record { beats = 0; notes = [] }))
     unfolding notesOk
     valid-at [] a r = (omega arith, refl)
     valid-at (x ∷ rs) a zero = a .0

@@ -78,6 +78,10 @@ record In (n : Note) (low high : ℕ) (c : Cell) : Type 0 where
   from : low ≤ c .beat
   upto : c .beat ≤ high
 
+-- A recording that lay accepts: its beats within the limit, its notes in range and in order.
+abbrev pub Valid : ℕ → Recording → Type 0
+Valid δ r = (r .beats ≤ 4096) × (notesOk δ (r .beats) (r .notes) ≡ true)
+
 module _ (δ : ℕ) (z : 0 < δ) where
   -- the ticks of the beats that a note has pieces in
   beat-low : (n : Note) (b : ℕ) → n .start / δ ≤ b → n .start < suc b * δ
@@ -141,7 +145,8 @@ module _ (δ : ℕ) (z : 0 < δ) where
   unfolding cellsInBeat fills filled
   pieced-beat n b l h = go (leb (n .start) (b * δ)) (leb (suc b * δ) (n .end)) refl refl
     where
-      go : (t u : Bool) → leb (n .start) (b * δ) ≡ t → leb (suc b * δ) (n .end) ≡ u → Pieced δ (consIf t (cellAt n b 0 (b * δ)) (consIf u (cellAt n b 1 (suc b * δ)) []))
+      go : (t u : Bool) → leb (n .start) (b * δ) ≡ t → leb (suc b * δ) (n .end) ≡ u
+          → Pieced δ (consIf t (cellAt n b 0 (b * δ)) (consIf u (cellAt n b 1 (suc b * δ)) []))
       go true true e g =
           let a : n .start ≤ b * δ = leb-true (n .start) (b * δ) e in
           let d : suc b * δ ≤ n .end = leb-true (suc b * δ) (n .end) g in
@@ -234,7 +239,8 @@ module _ (δ : ℕ) (z : 0 < δ) where
         ]
       ]
 
-  of-behind : (P : Cell → Type 0) (n : Note) (ms : List Note) → All (λ m. m .start < m .end) ms → All (Follow n) ms → ((m : Note) (c : Cell) → Follow n m → Of δ m c → P c) → All P (gather (cellsOfNote δ) ms)
+  of-behind : (P : Cell → Type 0) (n : Note) (ms : List Note) → All (λ m. m .start < m .end) ms → All (Follow n) ms
+      → ((m : Note) (c : Cell) → Follow n m → Of δ m c → P c) → All P (gather (cellsOfNote δ) ms)
   of-behind P n [] v f h = tt
   of-behind P n (m ∷ ms) v f h = all-append P (cellsOfNote δ m) (gather (cellsOfNote δ) ms) (all-imp (Of δ m) P (cellsOfNote δ m) (λ c o. h m c (f .0) o) (of-note m (v .0))) (of-behind P n ms (v .1) (f .1) h)
 
@@ -285,14 +291,16 @@ module _ (δ : ℕ) (z : 0 < δ) where
         before = λ l b e. let k : firstBeat δ n * δ ≡ c .beat * δ = ap (λ (j : ℕ). j * δ) b in absurd (omega arith);
       }
 
-  clears : (ns : List Note) → All (λ n. n .start < n .end) ns → Pairs Follow ns → All (λ n. All (Clear δ n) (gather (cellsOfNote δ) ns)) (keep (inside δ) ns)
+  clears : (ns : List Note) → All (λ n. n .start < n .end) ns → Pairs Follow ns
+      → All (λ n. All (Clear δ n) (gather (cellsOfNote δ) ns)) (keep (inside δ) ns)
   clears [] v s = tt
   clears (n ∷ ns) v s =
       all-consIf (λ n′. All (Clear δ n′) (cellsOfNote δ n ++ gather (cellsOfNote δ) ns)) (inside δ n) n (keep (inside δ) ns)
       (λ e. all-append (Clear δ n) (cellsOfNote δ n) (gather (cellsOfNote δ) ns) (rw (no-cells δ z n (v .0) e) tt) (of-behind (Clear δ n) n ns (v .1) (s .0) (λ m c f o. clear-behind n m c e (v .0) f o)))
       (old ns (v .1) (s .0) (clears ns (v .1) (s .1)))
     where
-      old : (ms : List Note) → All (λ m. m .start < m .end) ms → All (Follow n) ms → All (λ n′. All (Clear δ n′) (gather (cellsOfNote δ) ns)) (keep (inside δ) ms)
+      old : (ms : List Note) → All (λ m. m .start < m .end) ms → All (Follow n) ms
+          → All (λ n′. All (Clear δ n′) (gather (cellsOfNote δ) ns)) (keep (inside δ) ms)
           → All (λ n′. All (Clear δ n′) (cellsOfNote δ n ++ gather (cellsOfNote δ) ns)) (keep (inside δ) ms)
       old [] w f a = tt
       old (m ∷ ms) w f a = go (inside δ m) refl a (old ms (w .1) (f .1))

@@ -2,14 +2,13 @@
 -- Assumes nothing.
 use mathlib.Core.Bool.{Bool, _&&_, _||_, cond, false, true, true≢false}
 use mathlib.Core.List.{List, [], _∷_}
-use mathlib.Core.Path.{_≡_, ap, refl, sym}
-use Prim.Native.Nat.{_*_, _+_, _<_, _≤_, suc, ℕ}
-use native.Mathlib.Decide.{decLe, ℕ-discrete}
-use native.Mathlib.Nat.{mul-le-mul-right}
+use mathlib.Core.Path.{_≡_, refl, sym}
+use Prim.Native.Nat.{_*_, _<_, _≤_, suc, ℕ}
+use native.Mathlib.Decide.{ℕ-discrete}
 use native.Mathlib.Omega.{arith}
 use lib.Dec.{eqb}
-use borrow.Author.Tests.{eq-eqb, eqb-true, leb-false, ne-eqb}
-use Rattle.model.specs.Binding.{bound, boundNext, endOf, fills, goOn, lineNotes, meet, opening, standsAlone, startOf}
+use borrow.Author.Tests.{eqb-true}
+use Rattle.model.specs.Binding.{bound, boundNext, endOf, fills, goOn, lineNotes, meet, standsAlone, startOf}
 use Rattle.model.specs.Pieces.{firstBeat, inside}
 use Rattle.model.specs.Soundness.{filled, notesOk}
 use Rattle.model.specs.Takes.{Take, merge, notesOf}
@@ -22,9 +21,10 @@ use Rattle.laws.specs.Lines.{meet-line}
 use Rattle.laws.specs.Merging.{all-merge, merge-pairs}
 use Rattle.laws.specs.Notes.{Away, Fair, Follow, Long, above, follow-end, later, left, pairs-ok, right}
 use Rattle.laws.specs.Relations.{All, Pairs, all-imp}
-use Rattle.laws.specs.Rules.{Pair, Pieced, double, not-open, pair-close, pair-fills, pair-open, single, stop}
-use Rattle.laws.specs.Solid.{Apart, Clear, Fine, Solid, beat-up, lane-up, side-up}
-use Rattle.laws.specs.Walk.{line-walk, own, walk}
+use Rattle.laws.specs.Rules.{Pair, Pieced, double, own, single, span, stop}
+use Rattle.laws.specs.Solid.{Apart, Clear, Fine, Solid}
+use Rattle.laws.specs.Spans.{away-double, away-single, double-gap, first-from, single-gap, spans-double, spans-single}
+use Rattle.laws.specs.Walk.{line-walk, walk, walk-double, walk-single}
 
 -- ---- one piece in front of the notes behind it
 
@@ -47,7 +47,8 @@ follow-beyond p n v (above a) = up a
 follow-beyond p n v (later a b) = on a (omega arith)
 
 module _ (δ beats : ℕ) where
-  step : (p : Note) (ns : List Note) (on-it shown held : Bool) → Fair δ beats p → (held ≡ true → shown ≡ true) → All (Follow p) ns → All (Fair δ beats) ns → Pairs Follow ns
+  step : (p : Note) (ns : List Note) (on-it shown held : Bool) → Fair δ beats p → (held ≡ true → shown ≡ true) → All (Follow p) ns
+      → All (Fair δ beats) ns → Pairs Follow ns
       → (on-it ≡ true → Begins (p .lane) (p .end) ns) → Out δ beats (p .lane) (p .start) held (cond on-it (goOn p ns) (cond shown (p ∷ ns) ns))
   step p [] true shown held f h a b c d = absurd (d refl)
   step p (m ∷ ms) true shown held f h a b c d =
@@ -77,7 +78,8 @@ module _ (δ beats : ℕ) where
   }
 
   -- the same for a note that lies away from the piece and from the notes behind it
-  step-away : (n p : Note) (ns : List Note) (on-it shown : Bool) → n .start < n .end → Away n p → All (Away n) ns → (on-it ≡ true → Begins (p .lane) (p .end) ns)
+  step-away : (n p : Note) (ns : List Note) (on-it shown : Bool) → n .start < n .end → Away n p → All (Away n) ns
+      → (on-it ≡ true → Begins (p .lane) (p .end) ns)
       → All (Away n) (cond on-it (goOn p ns) (cond shown (p ∷ ns) ns))
   step-away n p [] true shown v a b d = absurd (d refl)
   step-away n p (m ∷ ms) true shown v a b d = (go a (b .0), b .1)
@@ -103,81 +105,7 @@ module _ (δ beats : ℕ) where
 
 -- ---- the walk's notes
 
-module _ (H : Header) (beats : ℕ) (z : 0 < (H .delta)) (le : (H .epsilon) ≤ (H .delta)) where
-  -- the piece of two cells
-  abbrev pub whole : Cell → Cell → Note
-  whole c d = record { lane = c .lane; start = startOf (H .delta) c; end = endOf (H .delta) d; velocity = c .velocity }
-
-  pub walk-single : (c : Cell) (cs : List Cell) (held : Bool) → fills (H .delta) c ≡ false
-      → walk H held (c ∷ cs) ≡ cond (boundNext H c cs) (goOn (own (H .delta) c) (walk H (boundNext H c cs) cs)) (cond (standsAlone H c || held) (own (H .delta) c ∷ walk H (boundNext H c cs) cs) (walk H (boundNext H c cs) cs))
-  unfolding walk
-  walk-single c cs held f = rw f
-
-  pub walk-double : (c d : Cell) (cs : List Cell) (held : Bool) → Pair (H .delta) c d
-      → walk H held (c ∷ d ∷ cs) ≡ cond (boundNext H d cs) (goOn (whole c d) (walk H (boundNext H d cs) cs)) (cond true (whole c d ∷ walk H (boundNext H d cs) cs) (walk H (boundNext H d cs) cs))
-  unfolding walk own
-  walk-double c d cs held q =
-      rw (pair-fills (H .delta) c d q, not-open (H .delta) d (pair-close (H .delta) c d q), or-right (standsAlone H d) {b = true} refl) (go (boundNext H d cs) (walk H (boundNext H d cs) cs))
-    where
-      go : (b : Bool) (ns : List Note) → goOn (own (H .delta) c) (cond b (goOn (own (H .delta) d) ns) (own (H .delta) d ∷ ns)) ≡ cond b (goOn (whole c d) ns) (whole c d ∷ ns)
-      go true [] = refl
-      go true (k ∷ ks) = refl
-      go false ns = refl
-
-  -- a piece's ticks
-  record Spans (c : Cell) (p : Note) : Type 0 where
-    is-lane : p .lane ≡ c .lane
-    is-start : p .start ≡ startOf (H .delta) c
-    is-fair : Fair (H .delta) beats p
-    from : c .beat * (H .delta) ≤ p .start
-    upto : p .end ≤ suc (c .beat) * (H .delta)
-
-  beats-mul : (a b : ℕ) → a < b → suc a * (H .delta) ≤ b * (H .delta)
-  beats-mul a b h = mul-le-mul-right (H .delta) h
-
-  spans-single : (c : Cell) → fills (H .delta) c ≡ false → filled (H .delta) c ≡ false → Fine (H .delta) beats c → Spans c (own (H .delta) c)
-  unfolding fills filled own startOf endOf
-  spans-single c f g k = go (opening c) refl
-    where
-      lim : suc (c .beat) * (H .delta) ≤ beats * (H .delta)
-      lim = beats-mul (c .beat) beats (k .beat-below)
-
-      go : (o : Bool) → opening c ≡ o → Spans c (own (H .delta) c)
-      go true e =
-          let a : 0 < c .after = k .open-ticks e in
-          let m : suc (c .beat) * (H .delta) ≤ beats * (H .delta) = lim in
-          let b : c .after < (H .delta) = leb-false (H .delta) (c .after) (rw e at f) in
-          rw e (record {
-            is-lane = refl;
-            is-start = rw e;
-            is-fair = record { lane-below = k .lane-below; order = omega arith; fits = omega arith; loud = k .loud };
-            from = omega arith;
-            upto = omega arith;
-          })
-      go false e =
-          let a : 0 < c .before = k .close-ticks e in
-          let m : suc (c .beat) * (H .delta) ≤ beats * (H .delta) = lim in
-          let b : c .before < (H .delta) = leb-false (H .delta) (c .before) (rw e at g) in
-          rw e (record {
-            is-lane = refl;
-            is-start = rw e;
-            is-fair = record { lane-below = k .lane-below; order = omega arith; fits = omega arith; loud = k .loud };
-            from = omega arith;
-            upto = omega arith;
-          })
-
-  spans-double : (c d : Cell) → Pair (H .delta) c d → Fine (H .delta) beats c → Spans c (whole c d)
-  unfolding startOf endOf
-  spans-double c d q k =
-      let lim : suc (c .beat) * (H .delta) ≤ beats * (H .delta) = beats-mul (c .beat) beats (k .beat-below) in
-      rw (pair-open (H .delta) c d q, pair-close (H .delta) c d q, q .beat-same) (record {
-        is-lane = refl;
-        is-start = rw (pair-open (H .delta) c d q);
-        is-fair = record { lane-below = k .lane-below; order = omega arith; fits = omega arith; loud = k .loud };
-        from = omega arith;
-        upto = omega arith;
-      })
-
+module _ (H : Header) (beats : ℕ) (z : 0 < (H .delta)) where
   -- what lies behind a piece follows it
   abbrev Outs : Bool → List Cell → List Note → Type 0
   Outs held [] ns = ns ≡ []
@@ -198,35 +126,6 @@ module _ (H : Header) (beats : ℕ) (z : 0 < (H .delta)) (le : (H .epsilon) ≤ 
     | no d ↦ above (omega arith)
   ]
 
-  -- where the first cell behind starts
-  first-from : {e : Cell} {es : List Cell} → Pieced (H .delta) (e ∷ es) → Fine (H .delta) beats e → e .beat * (H .delta) ≤ startOf (H .delta) e
-  first-from {e} (single f g p) k = let r = (spans-single e f g k) .from in rw ((spans-single e f g k) .is-start) at r
-  first-from (double {c = c} {d = d} q p) k = (spans-double c d q k) .from
-
-  side-lines : (c e : Cell) → c .beat ≡ e .beat → c .side ≡ 0 → e .side ≡ 1 → c .after + e .before ≤ (H .delta) → endOf (H .delta) c ≤ startOf (H .delta) e
-  unfolding startOf endOf
-  side-lines c e b o p j = rw (eq-eqb (c .side) 0 o, ne-eqb (e .side) 0 (omega arith), b) (omega arith)
-
-  single-gap : (c e : Cell) → fills (H .delta) c ≡ false → filled (H .delta) c ≡ false → Fine (H .delta) beats c → e .beat * (H .delta) ≤ startOf (H .delta) e → Apart (H .delta) c e
-      → (c .lane ≤ e .lane) × (e .lane ≡ c .lane → endOf (H .delta) c ≤ startOf (H .delta) e)
-  single-gap c e f g k h (lane-up a) = (omega arith, λ q. absurd (omega arith))
-  single-gap c e f g k h (beat-up a b) =
-      let u : endOf (H .delta) c ≤ suc (c .beat) * (H .delta) = let r = (spans-single c f g k) .upto in unfold own in r in
-      let m : suc (c .beat) * (H .delta) ≤ e .beat * (H .delta) = beats-mul (c .beat) (e .beat) b in
-      (omega arith, λ q. omega arith)
-  single-gap c e f g k h (side-up a b o p i) = (omega arith, λ q. side-lines c e b o p (i f))
-
-  double-gap : (c d e : Cell) → Pair (H .delta) c d → Fine (H .delta) beats c → e .beat * (H .delta) ≤ startOf (H .delta) e → Apart (H .delta) d e
-      → (c .lane ≤ e .lane) × (e .lane ≡ c .lane → endOf (H .delta) d ≤ startOf (H .delta) e)
-  double-gap c d e q k h (lane-up a) = let l = q .lane-same in (omega arith, λ r. absurd (omega arith))
-  double-gap c d e q k h (beat-up a b) =
-      let l = q .lane-same in
-      let u : endOf (H .delta) d ≤ suc (c .beat) * (H .delta) = (spans-double c d q k) .upto in
-      let m : suc (d .beat) * (H .delta) ≤ e .beat * (H .delta) = beats-mul (d .beat) (e .beat) b in
-      let v : suc (d .beat) * (H .delta) ≡ suc (c .beat) * (H .delta) = ap (λ (b : ℕ). suc b * (H .delta)) (q .beat-same) in
-      (omega arith, λ r. omega arith)
-  double-gap c d e q k h (side-up a b o p i) = let s = q .closes in absurd (omega arith)
-
   -- only the first cell behind is needed
   abbrev FirstGap : Note → List Cell → Type 0
   FirstGap p [] = Unit {0}
@@ -236,14 +135,16 @@ module _ (H : Header) (beats : ℕ) (z : 0 < (H .delta)) (le : (H .epsilon) ≤ 
   follow-first p held [] ns o a = rw o tt
   follow-first p held (e ∷ es) ns o a = all-imp (Beyond (e .lane) (startOf (H .delta) e)) (Follow p) ns (λ n. beyond-follow p n (e .lane) (startOf (H .delta) e) (a .1) (a .0)) (o .beyond)
 
-  gap-single : (c : Cell) (cs : List Cell) → fills (H .delta) c ≡ false → filled (H .delta) c ≡ false → Fine (H .delta) beats c → All (Fine (H .delta) beats) cs → Pieced (H .delta) cs → All (Apart (H .delta) c) cs → FirstGap (own (H .delta) c) cs
+  gap-single : (c : Cell) (cs : List Cell) → fills (H .delta) c ≡ false → filled (H .delta) c ≡ false → Fine (H .delta) beats c
+      → All (Fine (H .delta) beats) cs → Pieced (H .delta) cs → All (Apart (H .delta) c) cs → FirstGap (own (H .delta) c) cs
   unfolding own
   gap-single c [] f g k ks p a = tt
-  gap-single c (e ∷ es) f g k ks p a = single-gap c e f g k (first-from p (ks .0)) (a .0)
+  gap-single c (e ∷ es) f g k ks p a = single-gap (H .delta) beats z c e f g k (first-from (H .delta) beats z p (ks .0)) (a .0)
 
-  gap-double : (c d : Cell) (cs : List Cell) → Pair (H .delta) c d → Fine (H .delta) beats c → All (Fine (H .delta) beats) cs → Pieced (H .delta) cs → All (Apart (H .delta) d) cs → FirstGap (whole c d) cs
+  gap-double : (c d : Cell) (cs : List Cell) → Pair (H .delta) c d → Fine (H .delta) beats c → All (Fine (H .delta) beats) cs → Pieced (H .delta) cs
+      → All (Apart (H .delta) d) cs → FirstGap (span (H .delta) c d) cs
   gap-double c d [] q k ks p a = tt
-  gap-double c d (e ∷ es) q k ks p a = double-gap c d e q k (first-from p (ks .0)) (a .0)
+  gap-double c d (e ∷ es) q k ks p a = double-gap (H .delta) beats z c d e q k (first-from (H .delta) beats z p (ks .0)) (a .0)
 
   -- a bound piece's notes begin where it ends
   meet-lane : (c d : Cell) → meet c d ≡ true → d .lane ≡ c .lane
@@ -251,7 +152,8 @@ module _ (H : Header) (beats : ℕ) (z : 0 < (H .delta)) (le : (H .epsilon) ≤ 
   meet-lane c d m =
       sym (eqb-true (c .lane) (d .lane) (and-left (eqb (c .lane) (d .lane)) (eqb (c .side) 1) (and-left (eqb (c .lane) (d .lane) && eqb (c .side) 1) (eqb (d .side) 0) (and-left (eqb (c .lane) (d .lane) && eqb (c .side) 1 && eqb (d .side) 0) _ m))))
 
-  bound-begins : (c : Cell) (cs : List Cell) (ns : List Note) → Outs (boundNext H c cs) cs ns → boundNext H c cs ≡ true → Begins (c .lane) (endOf (H .delta) c) ns
+  bound-begins : (c : Cell) (cs : List Cell) (ns : List Note) → Outs (boundNext H c cs) cs ns → boundNext H c cs ≡ true
+      → Begins (c .lane) (endOf (H .delta) c) ns
   unfolding boundNext
   bound-begins c [] ns o e = absurd (true≢false (sym e))
   bound-begins c (d ∷ ds) ns o e =
@@ -259,87 +161,60 @@ module _ (H : Header) (beats : ℕ) (z : 0 < (H .delta)) (le : (H .epsilon) ≤ 
       let b : Begins (d .lane) (startOf (H .delta) d) ns = o .begins e in
       rw (← (meet-line (H .delta) z c d m), ← (meet-lane c d m)) b
 
-  outs : {cs : List Cell} → Pieced (H .delta) cs → All (Fine (H .delta) beats) cs → Pairs (Apart (H .delta)) cs → (held : Bool) → Outs held cs (walk H held cs)
+  outs : {cs : List Cell} → Pieced (H .delta) cs → All (Fine (H .delta) beats) cs → Pairs (Apart (H .delta)) cs → (held : Bool)
+      → Outs held cs (walk H held cs)
   unfolding own
   outs stop k a held = unfold walk in refl
   outs (single {c = c} {cs = cs} f g p) k a held =
       let on-it = boundNext H c cs in
       let ih : Outs on-it cs (walk H on-it cs) = outs p (k .1) (a .1) on-it in
-      rw (walk-single c cs held f)
-      (step (H .delta) beats (own (H .delta) c) (walk H on-it cs) on-it (standsAlone H c || held) held ((spans-single c f g (k .0)) .is-fair) (or-right (standsAlone H c))
+      rw (walk-single H c cs held f)
+      (step (H .delta) beats (own (H .delta) c) (walk H on-it cs) on-it (standsAlone H c || held) held ((spans-single (H .delta) beats z c f g (k .0)) .is-fair) (or-right (standsAlone H c))
       (follow-first (own (H .delta) c) on-it cs (walk H on-it cs) ih (gap-single c cs f g (k .0) (k .1) p (a .0)))
       (outs-fair on-it cs (walk H on-it cs) ih) (outs-pairs on-it cs (walk H on-it cs) ih) (bound-begins c cs (walk H on-it cs) ih))
   outs (double {c = c} {d = d} {cs = cs} q p) k a held =
       let on-it = boundNext H d cs in
       let ih : Outs on-it cs (walk H on-it cs) = outs p (k .1 .1) (a .1 .1) on-it in
-      rw (walk-double c d cs held q)
-      (step (H .delta) beats (whole c d) (walk H on-it cs) on-it true held ((spans-double c d q (k .0)) .is-fair) (λ e. refl)
-      (follow-first (whole c d) on-it cs (walk H on-it cs) ih (gap-double c d cs q (k .0) (k .1 .1) p (a .1 .0)))
+      rw (walk-double H c d cs held q)
+      (step (H .delta) beats (span (H .delta) c d) (walk H on-it cs) on-it true held ((spans-double (H .delta) beats z c d q (k .0)) .is-fair) (λ e. refl)
+      (follow-first (span (H .delta) c d) on-it cs (walk H on-it cs) ih (gap-double c d cs q (k .0) (k .1 .1) p (a .1 .0)))
       (outs-fair on-it cs (walk H on-it cs) ih) (outs-pairs on-it cs (walk H on-it cs) ih) (λ e. rw (← (q .lane-same)) (bound-begins d cs (walk H on-it cs) ih e)))
 
   -- ---- an inner note lies away from the walk's notes
 
   module _ (n : Note) (v : n .start < n .end) (low : firstBeat (H .delta) n * (H .delta) ≤ n .start) (high : n .end ≤ suc (firstBeat (H .delta) n) * (H .delta)) where
-    away-span : (c : Cell) (p : Note) → Spans c p → (n .lane ≡ c .lane → firstBeat (H .delta) n ≡ c .beat → Away n p) → Away n p
-    away-span c p s h = elim (ℕ-discrete (n .lane) (c .lane)) [
-      | yes e ↦ elim (ℕ-discrete (firstBeat (H .delta) n) (c .beat)) [
-        | yes g ↦ h e g
-        | no g ↦ elim (decLe (suc (firstBeat (H .delta) n)) (c .beat)) [
-          | yes l ↦ let m = beats-mul (firstBeat (H .delta) n) (c .beat) l in let il = s .is-lane in let fr = s .from in left (later (omega arith) (omega arith))
-          | no l ↦ let m = beats-mul (c .beat) (firstBeat (H .delta) n) (omega arith) in let il = s .is-lane in let ut = s .upto in right (later (omega arith) (omega arith))
-        ]
-      ]
-      | no d ↦ elim (decLe (suc (n .lane)) (c .lane)) [
-        | yes l ↦ let il = s .is-lane in left (above (omega arith))
-        | no l ↦ let il = s .is-lane in right (above (omega arith))
-      ]
-    ]
-
-    away-single : (c : Cell) → fills (H .delta) c ≡ false → filled (H .delta) c ≡ false → Fine (H .delta) beats c → Clear (H .delta) n c → Away n (own (H .delta) c)
-    unfolding own startOf endOf
-    away-single c f g k w = away-span c (own (H .delta) c) (spans-single c f g k) (λ l b. go (opening c) refl l b)
-      where
-        go : (o : Bool) → opening c ≡ o → n .lane ≡ c .lane → firstBeat (H .delta) n ≡ c .beat → Away n (own (H .delta) c)
-        go true e l b = let x = w .behind l b e in rw e (right (later (sym l) x))
-        go false e l b = let x = w .before l b e in rw e (left (later l (omega arith)))
-
-    away-double : (c d : Cell) → Pair (H .delta) c d → Fine (H .delta) beats c → Clear (H .delta) n c → Away n (whole c d)
-    away-double c d q k w = away-span c (whole c d) (spans-double c d q k) (λ l b.
-        let x = w .behind l b (pair-open (H .delta) c d q) in
-        let y = q .long in
-        let m : suc (firstBeat (H .delta) n) * (H .delta) ≡ suc (c .beat) * (H .delta) = ap (λ (i : ℕ). suc i * (H .delta)) b in
-        absurd (omega arith))
-
-    pub away-all : {cs : List Cell} → Pieced (H .delta) cs → All (Fine (H .delta) beats) cs → Pairs (Apart (H .delta)) cs → All (Clear (H .delta) n) cs → (held : Bool) → All (Away n) (walk H held cs)
+    pub away-all : {cs : List Cell} → Pieced (H .delta) cs → All (Fine (H .delta) beats) cs → Pairs (Apart (H .delta)) cs
+        → All (Clear (H .delta) n) cs → (held : Bool) → All (Away n) (walk H held cs)
     unfolding own
     away-all stop k a w held = unfold walk in tt
     away-all (single {c = c} {cs = cs} f g p) k a w held =
         let on-it = boundNext H c cs in
         let o : Outs on-it cs (walk H on-it cs) = outs p (k .1) (a .1) on-it in
-        rw (walk-single c cs held f)
-        (step-away (H .delta) beats n (own (H .delta) c) (walk H on-it cs) on-it (standsAlone H c || held) v (away-single c f g (k .0) (w .0)) (away-all p (k .1) (a .1) (w .1) on-it) (bound-begins c cs (walk H on-it cs) o))
+        rw (walk-single H c cs held f)
+        (step-away (H .delta) beats n (own (H .delta) c) (walk H on-it cs) on-it (standsAlone H c || held) v (away-single (H .delta) beats z n v low high c f g (k .0) (w .0)) (away-all p (k .1) (a .1) (w .1) on-it) (bound-begins c cs (walk H on-it cs) o))
     away-all (double {c = c} {d = d} {cs = cs} q p) k a w held =
         let on-it = boundNext H d cs in
         let o : Outs on-it cs (walk H on-it cs) = outs p (k .1 .1) (a .1 .1) on-it in
-        rw (walk-double c d cs held q)
-        (step-away (H .delta) beats n (whole c d) (walk H on-it cs) on-it true v (away-double c d q (k .0) (w .0)) (away-all p (k .1 .1) (a .1 .1) (w .1 .1) on-it) (λ e. rw (← (q .lane-same)) (bound-begins d cs (walk H on-it cs) o e)))
+        rw (walk-double H c d cs held q)
+        (step-away (H .delta) beats n (span (H .delta) c d) (walk H on-it cs) on-it true v (away-double (H .delta) beats z n v low high c d q (k .0) (w .0)) (away-all p (k .1 .1) (a .1 .1) (w .1 .1) on-it) (λ e. rw (← (q .lane-same)) (bound-begins d cs (walk H on-it cs) o e)))
 
 module _ (H : Header) (z : 0 < (H .delta)) (le : (H .epsilon) ≤ (H .delta)) (t : Take) (s : Solid (H .delta) t) where
   line-is : lineNotes H (t .cells) ≡ walk H false (t .cells)
   line-is = line-walk H le (s .cells-pieced)
 
   pub line-fair : All (Fair (H .delta) (t .beats)) (lineNotes H (t .cells))
-  line-fair = rw line-is (outs-fair H (t .beats) z le false (t .cells) (walk H false (t .cells)) (outs H (t .beats) z le (s .cells-pieced) (s .cells-fine) (s .cells-apart) false))
+  line-fair = rw line-is (outs-fair H (t .beats) z false (t .cells) (walk H false (t .cells)) (outs H (t .beats) z (s .cells-pieced) (s .cells-fine) (s .cells-apart) false))
 
   pub line-pairs : Pairs Follow (lineNotes H (t .cells))
-  line-pairs = rw line-is (outs-pairs H (t .beats) z le false (t .cells) (walk H false (t .cells)) (outs H (t .beats) z le (s .cells-pieced) (s .cells-fine) (s .cells-apart) false))
+  line-pairs = rw line-is (outs-pairs H (t .beats) z false (t .cells) (walk H false (t .cells)) (outs H (t .beats) z (s .cells-pieced) (s .cells-fine) (s .cells-apart) false))
 
-  aways : (ns : List Note) → All (Fair (H .delta) (t .beats)) ns → All (λ n. inside (H .delta) n ≡ true) ns → All (λ n. All (Clear (H .delta) n) (t .cells)) ns → All (λ n. All (Away n) (lineNotes H (t .cells))) ns
+  aways : (ns : List Note) → All (Fair (H .delta) (t .beats)) ns → All (λ n. inside (H .delta) n ≡ true) ns
+      → All (λ n. All (Clear (H .delta) n) (t .cells)) ns → All (λ n. All (Away n) (lineNotes H (t .cells))) ns
   aways [] f i c = tt
   aways (n ∷ ns) f i c =
       let l = inside-low (H .delta) n (i .0) in
       let h = inside-high (H .delta) n (i .0) in
-      (rw line-is (away-all H (t .beats) z le n (f .0 .order) (omega arith) (omega arith) (s .cells-pieced) (s .cells-fine) (s .cells-apart) (c .0) false), aways ns (f .1) (i .1) (c .1))
+      (rw line-is (away-all H (t .beats) z n (f .0 .order) (omega arith) (omega arith) (s .cells-pieced) (s .cells-fine) (s .cells-apart) (c .0) false), aways ns (f .1) (i .1) (c .1))
 
   -- its notes are in range, in order and do not overlap
   pub solid-notes : notesOk (H .delta) (t .beats) (notesOf H t) ≡ true

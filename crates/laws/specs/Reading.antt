@@ -42,7 +42,8 @@ past-head x y w ns rest =
     let m : 3 + 4 * length ns ≡ suc (suc (suc (4 * length ns))) = omega arith in
     rw m (past-notes ns rest)
 
-pub take-in : (δ W beats : ℕ) (ns : List Note) (cs : List Cell) → takeIn δ (shelfWords W beats ns cs) ≡ record { beats = beats; inner = keep (inside δ) ns; cells = cs }
+pub take-in : (δ W beats : ℕ) (ns : List Note) (cs : List Cell)
+    → takeIn δ (shelfWords W beats ns cs) ≡ record { beats = beats; inner = keep (inside δ) ns; cells = cs }
 unfolding takeIn shelfWords
 take-in δ W beats ns cs =
     let zeros : List ℕ = replicate (W - (3 + 4 * length ns + 6 * length cs)) 0 in
@@ -68,13 +69,15 @@ past-cells (c ∷ cs) rest =
     let m : 6 * suc (length cs) ≡ suc (suc (suc (suc (suc (suc (6 * length cs)))))) = omega arith in
     rw m (past-cells cs rest)
 
-past-both : (ns : List Note) (cs : List Cell) (rest : List ℕ) → drop (4 * length ns + 6 * length cs) (gather noteWords ns ++ (gather cellWords cs ++ rest)) ≡ rest
+past-both : (ns : List Note) (cs : List Cell) (rest : List ℕ)
+    → drop (4 * length ns + 6 * length cs) (gather noteWords ns ++ (gather cellWords cs ++ rest)) ≡ rest
 past-both [] cs rest = let m : 4 * 0 + 6 * length cs ≡ 6 * length cs = omega arith in rw m (past-cells cs rest)
 past-both (n ∷ ns) cs rest =
     let m : 4 * suc (length ns) + 6 * length cs ≡ suc (suc (suc (suc (4 * length ns + 6 * length cs)))) = omega arith in
     rw m (past-both ns cs rest)
 
-pub past-all : (x y w : ℕ) (ns : List Note) (cs : List Cell) (rest : List ℕ) → drop (3 + 4 * length ns + 6 * length cs) (x ∷ y ∷ w ∷ (gather noteWords ns ++ (gather cellWords cs ++ rest))) ≡ rest
+pub past-all : (x y w : ℕ) (ns : List Note) (cs : List Cell) (rest : List ℕ)
+    → drop (3 + 4 * length ns + 6 * length cs) (x ∷ y ∷ w ∷ (gather noteWords ns ++ (gather cellWords cs ++ rest))) ≡ rest
 past-all x y w ns cs rest =
     let m : 3 + 4 * length ns + 6 * length cs ≡ suc (suc (suc (4 * length ns + 6 * length cs))) = omega arith in
     rw m (past-both ns cs rest)
@@ -144,7 +147,8 @@ tail-back W N C l n u e =
     ap (λ (x : List ℕ). gather noteWords (readNotes N l) ++ (gather cellWords (readCells C (drop (4 * N) l)) ++ x)) q
     ∙ ap (λ (x : List ℕ). gather noteWords (readNotes N l) ++ x) (cells-back C (drop (4 * N) l) (omega arith)) ∙ notes-back N l (omega arith)
 
-pub shelf-back : (W : ℕ) (ws : List ℕ) → length ws ≡ W → 3 + 4 * word ws 1 + 6 * word ws 2 ≤ W → every (eqb 0) (drop (3 + 4 * word ws 1 + 6 * word ws 2) ws) ≡ true
+pub shelf-back : (W : ℕ) (ws : List ℕ) → length ws ≡ W → 3 + 4 * word ws 1 + 6 * word ws 2 ≤ W
+    → every (eqb 0) (drop (3 + 4 * word ws 1 + 6 * word ws 2) ws) ≡ true
     → shelfWords W (word ws 0) (readNotes (word ws 1) (drop 3 ws)) (readCells (word ws 2) (drop (3 + 4 * word ws 1) ws)) ≡ ws
 unfolding shelfWords
 shelf-back W [] n u e = absurd (omega arith)
@@ -152,7 +156,8 @@ shelf-back W (a ∷ []) n u e = absurd (omega arith)
 shelf-back W (a ∷ b ∷ []) n u e = absurd (omega arith)
 shelf-back W (a ∷ N ∷ C ∷ l) n u e = shelf-parts W a N C l n u e
   where
-    shelf-parts : (W a N C : ℕ) (l : List ℕ) → length (a ∷ N ∷ C ∷ l) ≡ W → 3 + 4 * N + 6 * C ≤ W → every (eqb 0) (drop (3 + 4 * N + 6 * C) (a ∷ N ∷ C ∷ l)) ≡ true
+    shelf-parts : (W a N C : ℕ) (l : List ℕ) → length (a ∷ N ∷ C ∷ l) ≡ W → 3 + 4 * N + 6 * C ≤ W
+        → every (eqb 0) (drop (3 + 4 * N + 6 * C) (a ∷ N ∷ C ∷ l)) ≡ true
         → shelfWords W a (readNotes N l) (readCells C (drop (3 + 4 * N) (a ∷ N ∷ C ∷ l))) ≡ a ∷ N ∷ C ∷ l
     shelf-parts W a N C l n u e =
         let m : 3 + 4 * N + 6 * C ≡ suc (suc (suc (4 * N + 6 * C))) = omega arith in

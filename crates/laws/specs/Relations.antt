@@ -7,6 +7,7 @@ use Prim.Native.Nat.{_+_, _<_, _≤_, suc, zero, ℕ}
 use native.Mathlib.Decide.{ℕ-discrete}
 use native.Mathlib.Omega.{arith}
 use lib.Dec.{eqb}
+use lib.ListN.{drop, getD, length, set, take}
 use borrow.Author.Tests.{eq-eqb, ne-eqb}
 use Rattle.model.specs.Lists.{consIf, countFrom, every, gather, keep}
 use Rattle.laws.specs.Booleans.{and-left, and-right, and-yes}
@@ -111,7 +112,8 @@ module _ {A : Type 0} where
       go false e ih = ih
 
 module _ {A : Type 0} where
-  pub all-all : (P Q : A → Type 0) (R : A → A → Type 0) (xs ys : List A) → ((x y : A) → P x → Q y → R x y) → All P xs → All Q ys → All (λ x. All (R x) ys) xs
+  pub all-all : (P Q : A → Type 0) (R : A → A → Type 0) (xs ys : List A) → ((x y : A) → P x → Q y → R x y) → All P xs → All Q ys
+      → All (λ x. All (R x) ys) xs
   all-all P Q R [] ys h a b = tt
   all-all P Q R (x ∷ xs) ys h a b = (all-imp Q (R x) ys (λ y q. h x y (a .0) q) b, all-all P Q R xs ys h (a .1) b)
 
@@ -131,3 +133,26 @@ module _ {A : Type 0} (p : A → Bool) where
   pub every-all : (xs : List A) → every p xs ≡ true → All (λ x. p x ≡ true) xs
   every-all [] e = tt
   every-all (x ∷ xs) e = (and-left (p x) (every p xs) e, every-all xs (and-right (p x) (every p xs) e))
+
+-- ---- after a place is written, and parts of a list
+
+module _ {A : Type 0} (P : A → Type 0) where
+  pub all-set : (xs : List A) (i : ℕ) (a : A) → All P xs → P a → All P (set xs i a)
+  all-set [] i a h p = tt
+  all-set (x ∷ xs) zero a h p = (p, h .1)
+  all-set (x ∷ xs) (suc i) a h p = (h .0, all-set xs i a (h .1) p)
+
+  pub all-at : (xs : List A) (i : ℕ) (d : A) → All P xs → i < length xs → P (getD xs i d)
+  all-at [] i d h b = absurd (omega arith)
+  all-at (x ∷ xs) zero d h b = h .0
+  all-at (x ∷ xs) (suc i) d h b = all-at xs i d (h .1) (omega arith)
+
+  pub all-take : (k : ℕ) (xs : List A) → All P xs → All P (take k xs)
+  all-take zero xs h = tt
+  all-take (suc k) [] h = tt
+  all-take (suc k) (x ∷ xs) h = (h .0, all-take k xs (h .1))
+
+  pub all-drop : (k : ℕ) (xs : List A) → All P xs → All P (drop k xs)
+  all-drop zero xs h = h
+  all-drop (suc k) [] h = tt
+  all-drop (suc k) (x ∷ xs) h = all-drop k xs (h .1)

@@ -11,11 +11,10 @@ use lib.ListN.{length}
 use borrow.Author.Tests.{le-leb, le-ltb, leb-true, lt-leb, lt-ltb}
 use Rattle.model.specs.Lists.{keep}
 use Rattle.model.specs.Pieces.{firstBeat}
+use Rattle.model.specs.Soundness.{soundShelf}
 use Rattle.model.specs.Takes.{Take, byLane, cellTo, joinTakes, lanes, laterBy, leftOf, noteTo, rightOf, splitLeft, splitRight, takeIn, word, wordsOf}
 use Rattle.model.specs.declared.Header.{Header}
 use Rattle.laws.specs.Beats.{note-beat, note-to}
-use Rattle.laws.specs.Chain.{chainShelf}
-use Rattle.laws.specs.ChainSolid.{sound-solid, words-again}
 use Rattle.laws.specs.Histories.{take-same}
 use Rattle.laws.specs.Lanes.{all-both, keep-byLane, map-byLane}
 use Rattle.laws.specs.Lines.{solid-inner}
@@ -24,6 +23,7 @@ use Rattle.laws.specs.Moving.{solid-join, solid-left, solid-right}
 use Rattle.laws.specs.Reading.{words-take}
 use Rattle.laws.specs.Relations.{All, Pairs, all-imp, all-keep, all-kept, keep-no, keep-yes}
 use Rattle.laws.specs.Solid.{Solid}
+use Rattle.laws.specs.Sound.{sound-solid, words-again}
 use Rattle.laws.specs.Tidy.{Ranged, Tidy, cells-tidy, lane-pairs, notes-tidy, tidy-byLane, tidy-lanes}
 
 -- ---- lists of anything with a lane and a beat
@@ -46,7 +46,8 @@ module _ {A : Type 0} (lane beat : A → ℕ) (to : ℕ → A → A)
   ]
 
   -- moved back and forth
-  there-back : (n k : ℕ) (ys : List A) → All (λ x. Ranged lane beat to n x × (k ≤ beat x)) ys → map (λ x. to (k + beat x) x) (map (λ x. to (beat x - k) x) ys) ≡ ys
+  there-back : (n k : ℕ) (ys : List A) → All (λ x. Ranged lane beat to n x × (k ≤ beat x)) ys
+      → map (λ x. to (k + beat x) x) (map (λ x. to (beat x - k) x) ys) ≡ ys
   there-back n k [] a = refl
   there-back n k (y ∷ ys) a =
       let h : k ≤ beat y = a .0 .1 in
@@ -97,7 +98,8 @@ module _ {A : Type 0} (lane beat : A → ℕ) (to : ℕ → A → A)
       ∙ append-nil xs)
       ∙ tidy-byLane lane beat to n xs t
 
-  right-join : (n m : ℕ) (xs ys : List A) → Tidy lane beat to n xs → Tidy lane beat to m ys → rightOf beat to n (byLane lane (xs ++ laterBy beat to n ys)) ≡ ys
+  right-join : (n m : ℕ) (xs ys : List A) → Tidy lane beat to n xs → Tidy lane beat to m ys
+      → rightOf beat to n (byLane lane (xs ++ laterBy beat to n ys)) ≡ ys
   unfolding rightOf laterBy
   right-join n m xs ys t u =
       let zs = map (λ x. to (n + beat x) x) ys in
@@ -154,16 +156,18 @@ module _ (H : Header) (z : 0 < (H .delta)) (le : (H .epsilon) ≤ (H .delta)) wh
   joinWords a b = wordsOf H (joinTakes (H .delta) (takeIn (H .delta) a) (takeIn (H .delta) b))
 
   -- split and join: every word as before
-  pub split-join : (ws : List ℕ) → length ws ≡ (H .words) → chainShelf H ws ≡ true → (k : ℕ) → k ≤ word ws 0 → joinWords (leftWords k ws) (rightWords k ws) ≡ ws
+  pub split-join : (ws : List ℕ) → length ws ≡ (H .words) → soundShelf H ws ≡ true → (k : ℕ) → k ≤ word ws 0
+      → joinWords (leftWords k ws) (rightWords k ws) ≡ ws
   split-join ws n e k h =
       let t = takeIn (H .delta) ws in
       let s : Solid (H .delta) t = sound-solid H z ws e in
       let b : k ≤ t .beats = unfold takeIn in h in
       ap₂ (λ (x y : Take). wordsOf H (joinTakes (H .delta) x y)) (solid-in (splitLeft (H .delta) k t) (solid-left (H .delta) z t s k)) (solid-in (splitRight (H .delta) k t) (solid-right (H .delta) z t s k))
-      ∙ ap (wordsOf H) (join-again (H .delta) z t s k b) ∙ words-again H z ws n e
+      ∙ ap (wordsOf H) (join-again (H .delta) z t s k b) ∙ words-again H z ws e n
 
   -- join and split: both shelves' words as before
-  pub join-split-left : (a b : List ℕ) → length a ≡ (H .words) → chainShelf H a ≡ true → chainShelf H b ≡ true → leftWords (word a 0) (joinWords a b) ≡ a
+  pub join-split-left : (a b : List ℕ) → length a ≡ (H .words) → soundShelf H a ≡ true → soundShelf H b ≡ true
+      → leftWords (word a 0) (joinWords a b) ≡ a
   join-split-left a b n e f =
       let t = takeIn (H .delta) a in
       let u = takeIn (H .delta) b in
@@ -172,9 +176,10 @@ module _ (H : Header) (z : 0 < (H .delta)) (le : (H .epsilon) ≤ (H .delta)) wh
       let w : t .beats ≡ word a 0 = unfold takeIn in refl in
       ap (λ (x : Take). wordsOf H (splitLeft (H .delta) (word a 0) x)) (solid-in (joinTakes (H .delta) t u) (solid-join (H .delta) z t u s r))
       ∙ ap (λ (k : ℕ). wordsOf H (splitLeft (H .delta) k (joinTakes (H .delta) t u))) (sym w)
-      ∙ ap (wordsOf H) (split-again-left (H .delta) z t u s) ∙ words-again H z a n e
+      ∙ ap (wordsOf H) (split-again-left (H .delta) z t u s) ∙ words-again H z a e n
 
-  pub join-split-right : (a b : List ℕ) → length b ≡ (H .words) → chainShelf H a ≡ true → chainShelf H b ≡ true → rightWords (word a 0) (joinWords a b) ≡ b
+  pub join-split-right : (a b : List ℕ) → length b ≡ (H .words) → soundShelf H a ≡ true → soundShelf H b ≡ true
+      → rightWords (word a 0) (joinWords a b) ≡ b
   join-split-right a b n e f =
       let t = takeIn (H .delta) a in
       let u = takeIn (H .delta) b in
@@ -183,4 +188,4 @@ module _ (H : Header) (z : 0 < (H .delta)) (le : (H .epsilon) ≤ (H .delta)) wh
       let w : t .beats ≡ word a 0 = unfold takeIn in refl in
       ap (λ (x : Take). wordsOf H (splitRight (H .delta) (word a 0) x)) (solid-in (joinTakes (H .delta) t u) (solid-join (H .delta) z t u s r))
       ∙ ap (λ (k : ℕ). wordsOf H (splitRight (H .delta) k (joinTakes (H .delta) t u))) (sym w)
-      ∙ ap (wordsOf H) (split-again-right (H .delta) z t u s r) ∙ words-again H z b n f
+      ∙ ap (wordsOf H) (split-again-right (H .delta) z t u s r) ∙ words-again H z b f n

@@ -9,11 +9,13 @@ use lib.Dec.{eqb, leb, ltb}
 use borrow.Author.Tests.{eq-eqb, le-leb, leb-true, lt-ltb, ne-eqb}
 use Rattle.model.specs.Binding.{Piece, addCell, bound, boundNext, endOf, fills, meet, opening, pieces, standsAlone, startOf}
 use Rattle.model.specs.Soundness.{filled}
+use Rattle.model.specs.Takes.{cellTo}
 use Rattle.model.specs.declared.Cell.{Cell}
 use Rattle.model.specs.declared.Header.{Header}
+use Rattle.model.specs.declared.Note.{Note}
 use Rattle.laws.specs.Booleans.{and-left, and-right, and-yes, mid, or-false, or-left, or-right}
 
--- ---- single rules
+-- ---- the facts about the rules that all else uses: no other file looks into standing alone or binding
 
 pub meet-open : (d r : Cell) → meet d r ≡ true → opening r ≡ true
 unfolding meet
@@ -41,7 +43,8 @@ module _ (H : Header) (le : (H .epsilon) ≤ (H .delta)) where
   unfolding filled standsAlone
   fill-close-alone d e = go (opening d) refl
     where
-      go : (o : Bool) → opening d ≡ o → cond o (leb (H .epsilon) (d .after) || eqb (d .before) 0) (leb (H .epsilon) (d .before) || eqb (d .after) 0) ≡ true
+      go : (o : Bool) → opening d ≡ o
+          → cond o (leb (H .epsilon) (d .after) || eqb (d .before) 0) (leb (H .epsilon) (d .before) || eqb (d .after) 0) ≡ true
       go true f = absurd (true≢false (sym (and-left (not true) (leb (H .delta) (d .before)) (rw f at e))))
       go false f =
           let a : (H .delta) ≤ d .before = leb-true (H .delta) (d .before) (and-right (not (opening d)) (leb (H .delta) (d .before)) e) in
@@ -68,6 +71,15 @@ ends-free H c d o a p b =
     let s : standsAlone H c ≡ true = close-alone H c o a in
     let t : standsAlone H d ≡ true = open-alone H d p b in
     (s, t, rw (s, t, a))
+
+-- neither rule looks at lanes and beats
+pub moved-alone : (H : Header) (i : ℕ) (c : Cell) → standsAlone H (cellTo i c) ≡ standsAlone H c
+unfolding standsAlone
+moved-alone H i c = refl
+
+pub moved-bound : (H : Header) (i j : ℕ) (c d : Cell) → bound H (cellTo i c) (cellTo j d) ≡ bound H c d
+unfolding bound standsAlone
+moved-bound H i j c d = refl
 
 -- ---- cells in pieces
 
@@ -103,6 +115,15 @@ module _ (δ : ℕ) (c d : Cell) (q : Pair δ c d) where
   unfolding filled
   pair-filled = let b : d .before ≡ c .before + δ = q .before-is in rw pair-close (le-leb δ (d .before) (omega arith))
 
+-- A cell's own piece.
+unfoldable pub own : ℕ → Cell → Note
+unfolding startOf endOf
+own δ c = record { lane = c .lane; start = startOf δ c; end = endOf δ c; velocity = c .velocity }
+
+-- The piece of two cells.
+abbrev pub span : ℕ → Cell → Cell → Note
+span δ c d = record { lane = c .lane; start = startOf δ c; end = endOf δ d; velocity = c .velocity }
+
 -- ---- the first piece of cells
 
 pub not-open : (δ : ℕ) (c : Cell) → opening c ≡ false → fills δ c ≡ false
@@ -119,7 +140,8 @@ module _ (H : Header) where
   abbrev pub alone : Cell → Bool → Bool → Piece
   alone c held right = record { note = record { lane = c .lane; start = startOf (H .delta) c; end = endOf (H .delta) c; velocity = c .velocity }; shown = held; joined = right }
 
-  pub add-single : (c : Cell) (held right : Bool) (ps : List Piece) → fills (H .delta) c ≡ false → addCell (H .delta) c held right ps ≡ alone c held right ∷ ps
+  pub add-single : (c : Cell) (held right : Bool) (ps : List Piece) → fills (H .delta) c ≡ false
+      → addCell (H .delta) c held right ps ≡ alone c held right ∷ ps
   unfolding addCell
   add-single c held right [] e = refl
   add-single c held right (p ∷ ps) e = rw (e, addCell)
@@ -159,11 +181,10 @@ module _ (H : Header) where
 
   -- a closing cell at its note's end is bound to nothing
   pub fresh-free : (d : Cell) (cs : List Cell) → d .side ≡ 1 → d .after ≡ 0 → Fresh cs → boundNext H d cs ≡ false
-  unfolding boundNext bound
+  unfolding boundNext
   fresh-free d [] o a f = refl
   fresh-free d (r ∷ rs) o a f = go (meet d r) refl
     where
       go : (t : Bool) → meet d r ≡ t → t && bound H d r ≡ false
       go false e = refl
-      go true e = rw (close-alone H d o a, open-alone H r (meet-open d r e) (f (meet-open d r e)), a)
-      -- ---- a note's own cells
+      go true e = ends-free H d r o a (meet-open d r e) (f (meet-open d r e)) .2

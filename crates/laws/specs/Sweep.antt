@@ -101,7 +101,8 @@ module _ (δ : ℕ) (z : 0 < δ) where
   and-true true = refl
   and-true false = refl
 
-  two-all : (n : Note) (c : Cell) (cs : List Cell) → From (n .lane) (firstBeat δ n) c → Pairs (Apart δ) (c ∷ cs) → every (clear δ n) (c ∷ cs) ≡ clearTwo δ n (c ∷ cs)
+  two-all : (n : Note) (c : Cell) (cs : List Cell) → From (n .lane) (firstBeat δ n) c → Pairs (Apart δ) (c ∷ cs)
+      → every (clear δ n) (c ∷ cs) ≡ clearTwo δ n (c ∷ cs)
   unfolding clearTwo
   two-all n c [] f s = and-true (clear δ n c)
   two-all n c (d ∷ ds) f s =
@@ -117,16 +118,19 @@ module _ (δ : ℕ) (z : 0 < δ) where
   skip-clear l b m [] f = refl
   skip-clear l b m (c ∷ cs) f = go (earlier l b c) refl (skip-clear l b m cs f)
     where
-      go : (t : Bool) → earlier l b c ≡ t → every (clear δ m) cs ≡ every (clear δ m) (skip l b cs) → every (clear δ m) (c ∷ cs) ≡ every (clear δ m) (skip l b (c ∷ cs))
+      go : (t : Bool) → earlier l b c ≡ t → every (clear δ m) cs ≡ every (clear δ m) (skip l b cs)
+          → every (clear δ m) (c ∷ cs) ≡ every (clear δ m) (skip l b (c ∷ cs))
       go true e ih = rw (e, skip, before-clear l b m c f (is-before l b c e)) ih
       go false e ih = rw (e, skip)
 
-  skip-two : (n : Note) (cs : List Cell) → Pairs (Apart δ) cs → every (clear δ n) (skip (n .lane) (firstBeat δ n) cs) ≡ clearTwo δ n (skip (n .lane) (firstBeat δ n) cs)
+  skip-two : (n : Note) (cs : List Cell) → Pairs (Apart δ) cs
+      → every (clear δ n) (skip (n .lane) (firstBeat δ n) cs) ≡ clearTwo δ n (skip (n .lane) (firstBeat δ n) cs)
   unfolding skip clearTwo
   skip-two n [] s = refl
   skip-two n (c ∷ cs) s = go (earlier (n .lane) (firstBeat δ n) c) refl (skip-two n cs (s .1))
     where
-      go : (t : Bool) → earlier (n .lane) (firstBeat δ n) c ≡ t → every (clear δ n) (skip (n .lane) (firstBeat δ n) cs) ≡ clearTwo δ n (skip (n .lane) (firstBeat δ n) cs)
+      go : (t : Bool) → earlier (n .lane) (firstBeat δ n) c ≡ t
+          → every (clear δ n) (skip (n .lane) (firstBeat δ n) cs) ≡ clearTwo δ n (skip (n .lane) (firstBeat δ n) cs)
           → every (clear δ n) (skip (n .lane) (firstBeat δ n) (c ∷ cs)) ≡ clearTwo δ n (skip (n .lane) (firstBeat δ n) (c ∷ cs))
       go true e ih = rw (e, skip) ih
       go false e ih = rw (e, skip) (two-all n c cs (is-from (n .lane) (firstBeat δ n) c e) s)
@@ -149,7 +153,8 @@ module _ (δ : ℕ) (z : 0 < δ) where
   every-same p q (n ∷ ns) a = ap₂ _&&_ (a .0) (every-same p q ns (a .1))
 
   -- every note is clear of every cell: one sweep
-  pub sweep-all : (ns : List Note) (cs : List Cell) → All (λ n. n .start < n .end) ns → Pairs Follow ns → Pairs (Apart δ) cs → every (λ n. every (clear δ n) cs) ns ≡ sweep δ ns cs
+  pub sweep-all : (ns : List Note) (cs : List Cell) → All (λ n. n .start < n .end) ns → Pairs Follow ns → Pairs (Apart δ) cs
+      → every (λ n. every (clear δ n) cs) ns ≡ sweep δ ns cs
   unfolding sweep
   sweep-all [] cs v f s = refl
   sweep-all (n ∷ ns) cs v f s =

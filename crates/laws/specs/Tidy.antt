@@ -77,7 +77,8 @@ module _ (δ : ℕ) (z : 0 < δ) where
   own-beat : (n : Note) → n .start ≤ n .end → noteTo δ (firstBeat δ n) n ≡ n
   own-beat n v = let d : n .start / δ * δ + n .start % δ ≡ n .start = div-add-mod' (n .start) δ in note-same refl (omega arith) (omega arith) refl
 
-  notes-order : (beats : ℕ) (ns : List Note) → All (Fair δ beats) ns → Pairs Follow ns → Pairs (Ordered (λ (n : Note). n .lane) (firstBeat δ) (noteTo δ)) ns
+  notes-order : (beats : ℕ) (ns : List Note) → All (Fair δ beats) ns → Pairs Follow ns
+      → Pairs (Ordered (λ (n : Note). n .lane) (firstBeat δ) (noteTo δ)) ns
   notes-order beats [] f s = tt
   notes-order beats (n ∷ ns) f s =
       (all-imp (Follow n) (Ordered (λ (n : Note). n .lane) (firstBeat δ) (noteTo δ) n) ns (λ m. follow-ordered n m (f .0 .order)) (s .0), notes-order beats ns (f .1) (s .1))

@@ -11,17 +11,12 @@ use Rattle.model.specs.declared.Cell.{Cell}
 use Rattle.model.specs.declared.Header.{Header}
 use Rattle.model.specs.declared.Note.{Note}
 use Rattle.laws.specs.Booleans.{and-yes, or-false, or-left, or-right}
-use Rattle.laws.specs.Rules.{Pair, Pieced, double, fill-close-alone, fill-open-alone, not-open, pair-close, pair-filled, pair-fills, single, step-fill, step-single, stop}
+use Rattle.laws.specs.Rules.{Pair, Pieced, double, fill-close-alone, fill-open-alone, not-open, own, pair-close, pair-filled, pair-fills, single, span, step-fill, step-single, stop}
 
 -- The cell's piece goes on in the next cell: they are one piece, or bound.
 unfoldable pub linked : Header → Cell → List Cell → Bool
 unfolding fills boundNext
 linked H c cs = fills (H .delta) c || boundNext H c cs
-
--- A cell's own piece.
-unfoldable pub own : ℕ → Cell → Note
-unfolding startOf endOf
-own δ c = record { lane = c .lane; start = startOf δ c; end = endOf δ c; velocity = c .velocity }
 
 -- The notes that the rules give; `held`: the first cell goes on from the one before it. A piece that is not linked on is shown if it is held or its cell stands alone.
 unfoldable pub walk : Header → Bool → List Cell → List Note
@@ -57,7 +52,8 @@ module _ (H : Header) (le : (H .epsilon) ≤ (H .delta)) where
   walk-runs stop left = refl
   walk-runs (single {c = c} {cs = cs} f g p) left = go (boundNext H c cs) refl (walk-runs p (boundNext H c cs))
     where
-      go : (b : Bool) → boundNext H c cs ≡ b → runs (pieces H (boundNext H c cs) cs) ≡ walk H (boundNext H c cs) cs → runs (pieces H left (c ∷ cs)) ≡ walk H left (c ∷ cs)
+      go : (b : Bool) → boundNext H c cs ≡ b → runs (pieces H (boundNext H c cs) cs) ≡ walk H (boundNext H c cs) cs
+          → runs (pieces H left (c ∷ cs)) ≡ walk H left (c ∷ cs)
       go true e ih = rw (step-single H c cs left f, f, e, or-right (standsAlone H c || left) {b = true} refl, next-shown c cs p e) (ap (goOn (own (H .delta) c)) (rw e at ih))
       go false e ih = rw (step-single H c cs left f, f, e, or-false (standsAlone H c || left)) (ap (λ (ns : List Note). cond (standsAlone H c || left) (own (H .delta) c ∷ ns) ns) (rw e at ih))
   walk-runs (double {c = c} {d = d} {cs = cs} q p) left = go (boundNext H d cs) refl (walk-runs p (boundNext H d cs))
@@ -68,7 +64,8 @@ module _ (H : Header) (le : (H .epsilon) ≤ (H .delta)) where
       sd : standsAlone H d ≡ true
       sd = fill-close-alone H le d (pair-filled (H .delta) c d q)
 
-      go : (b : Bool) → boundNext H d cs ≡ b → runs (pieces H (boundNext H d cs) cs) ≡ walk H (boundNext H d cs) cs → runs (pieces H left (c ∷ d ∷ cs)) ≡ walk H left (c ∷ d ∷ cs)
+      go : (b : Bool) → boundNext H d cs ≡ b → runs (pieces H (boundNext H d cs) cs) ≡ walk H (boundNext H d cs) cs
+          → runs (pieces H left (c ∷ d ∷ cs)) ≡ walk H left (c ∷ d ∷ cs)
       go true e ih =
           rw (step-fill H c d cs left (pair-fills (H .delta) c d q) (q .opens) (pair-close (H .delta) c d q), pair-fills (H .delta) c d q, not-open (H .delta) d (pair-close (H .delta) c d q), sc, sd, e, next-shown d cs p e)
           (ap (goOn (record { lane = c .lane; start = startOf (H .delta) c; end = endOf (H .delta) d; velocity = c .velocity })) (rw e at ih) ∙ sym (go-on-twice (own (H .delta) c) (own (H .delta) d) (walk H true cs)))
@@ -168,7 +165,8 @@ module _ (H : Header) where
       none-held none e = refl
       none-held (some n) e = absurd (true≢false (sym (or-right (standsAlone H c) refl) ∙ e))
 
-      go : (b : Bool) → linked H c cs ≡ b → (t : Bool) → standsAlone H c || inHand o ≡ t → walkFrom H o (c ∷ cs) ≡ after o (walk H (inHand o) (c ∷ cs))
+      go : (b : Bool) → linked H c cs ≡ b → (t : Bool) → standsAlone H c || inHand o ≡ t
+          → walkFrom H o (c ∷ cs) ≡ after o (walk H (inHand o) (c ∷ cs))
       go true e t h = rw (e, walkFrom) (f e (grown (H .delta) o c) ∙ grown-on o c (walk H true cs))
       go false e true h = rw (e, h, walkFrom) (ap (_∷_ (grown (H .delta) o c)) g ∙ grown-end o c (walk H false cs))
       go false e false h = rw (e, h, walkFrom) (g ∙ none-held o h)
@@ -186,3 +184,23 @@ module _ (H : Header) where
 -- the notes of cells in pieces, from left to right
 pub line-from : (H : Header) → (H .epsilon) ≤ (H .delta) → {cs : List Cell} → Pieced (H .delta) cs → lineNotes H cs ≡ walkFrom H none cs
 line-from H le {cs} p = line-walk H le p ∙ sym (from-walk H cs none (whole p) (λ e. refl))
+
+-- ---- the first piece of the walk
+
+module _ (H : Header) where
+  pub walk-single : (c : Cell) (cs : List Cell) (held : Bool) → fills (H .delta) c ≡ false
+      → walk H held (c ∷ cs) ≡ cond (boundNext H c cs) (goOn (own (H .delta) c) (walk H (boundNext H c cs) cs)) (cond (standsAlone H c || held) (own (H .delta) c ∷ walk H (boundNext H c cs) cs) (walk H (boundNext H c cs) cs))
+  unfolding walk
+  walk-single c cs held f = rw f
+
+  pub walk-double : (c d : Cell) (cs : List Cell) (held : Bool) → Pair (H .delta) c d
+      → walk H held (c ∷ d ∷ cs) ≡ cond (boundNext H d cs) (goOn (span (H .delta) c d) (walk H (boundNext H d cs) cs)) (cond true (span (H .delta) c d ∷ walk H (boundNext H d cs) cs) (walk H (boundNext H d cs) cs))
+  unfolding walk own
+  walk-double c d cs held q =
+      rw (pair-fills (H .delta) c d q, not-open (H .delta) d (pair-close (H .delta) c d q), or-right (standsAlone H d) {b = true} refl) (go (boundNext H d cs) (walk H (boundNext H d cs) cs))
+    where
+      go : (b : Bool) (ns : List Note)
+          → goOn (own (H .delta) c) (cond b (goOn (own (H .delta) d) ns) (own (H .delta) d ∷ ns)) ≡ cond b (goOn (span (H .delta) c d) ns) (span (H .delta) c d ∷ ns)
+      go true [] = refl
+      go true (k ∷ ks) = refl
+      go false ns = refl
