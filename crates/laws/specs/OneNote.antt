@@ -9,7 +9,7 @@ use native.Mathlib.Nat.{mul-le-mul-right}
 use native.Mathlib.Omega.{arith}
 use lib.Dec.{leb}
 use borrow.Author.Tests.{eq-eqb, le-leb, leb-false, leb-true, lt-leb, ne-eqb}
-use Rattle.model.specs.Binding.{fills}
+use Rattle.model.specs.Binding.{fills, opening}
 use Rattle.model.specs.Histories.{Recording, recordingTake}
 use Rattle.model.specs.Limits.{velocityOk}
 use Rattle.model.specs.Lists.{consIf, countFrom, gather, keep}
@@ -107,37 +107,59 @@ module _ (δ : ℕ) (z : 0 < δ) where
       let m = last-beat n v in
       all-count (Of δ n) (cellsInBeat δ n) (suc ((n .end - 1) / δ) - n .start / δ) (n .start / δ) (λ b c d. of-beat n b (beat-low n b c) (beat-high n b v (omega arith)))
 
-  -- range
-  of-fine : (beats : ℕ) → beats ≤ 4096 → (n : Note) → Fair δ beats n → (c : Cell) → Of δ n c → Fine δ beats c
-  of-fine beats w n f c (opens o) =
-      let v : n .start < n .end = f .order in
-      let e : n .end ≤ beats * δ = f .fits in
-      let m : beats * δ ≤ 4096 * δ = mul-le-mul-right δ w in
-      let l = o .lane-is in let si = o .side-is in let st = o .start-is in let en = o .end-is in let ti = o .ticks in let ve = o .velocity-is in
-      let fl = f .lane-below in let lo : velocityOk (n .lane) (n .velocity) ≡ true = f .loud in
+  -- what a cell has of its note, whichever line it is on
+  record Bounds (n : Note) (c : Cell) : Type 0 where
+    lane-is : c .lane ≡ n .lane
+    velocity-is : c .velocity ≡ n .velocity
+    side-is : c .side ≤ 1
+    low-is : c .beat * δ < n .end
+    high-is : n .start < suc (c .beat) * δ
+    sum-is : c .before + c .after ≤ n .end
+    open-ticks : opening c ≡ true → 0 < c .after
+    close-ticks : opening c ≡ false → 0 < c .before
+
+  bounds : (n : Note) (c : Cell) → Of δ n c → Bounds n c
+  bounds n c (opens o) =
+      let st = o .start-is in let en = o .end-is in let ti = o .ticks in let si = o .side-is in
       record {
-        lane-below = omega arith;
-        beat-below = elim (decLe (suc (c .beat)) beats) [ yes h ↦ h | no h ↦ let k : beats * δ ≤ c .beat * δ = mul-le-mul-right δ (omega arith) in absurd (omega arith) ];
-        side-below = omega arith;
-        loud = rw (l, ve) lo;
-        sum = omega arith;
+        lane-is = o .lane-is;
+        velocity-is = o .velocity-is;
+        side-is = omega arith;
+        low-is = omega arith;
+        high-is = omega arith;
+        sum-is = omega arith;
         open-ticks = λ x. ti;
         close-ticks = λ x. absurd (true≢false (sym (eq-eqb (c .side) 0 si) ∙ x));
       }
-  of-fine beats w n f c (closes o) =
-      let v : n .start < n .end = f .order in
+  bounds n c (closes o) =
+      let st = o .start-is in let en = o .end-is in let ti = o .ticks in let si = o .side-is in
+      record {
+        lane-is = o .lane-is;
+        velocity-is = o .velocity-is;
+        side-is = omega arith;
+        low-is = omega arith;
+        high-is = omega arith;
+        sum-is = omega arith;
+        open-ticks = λ x. absurd (true≢false (sym x ∙ ne-eqb (c .side) 0 (omega arith)));
+        close-ticks = λ x. ti;
+      }
+
+  -- range
+  of-fine : (beats : ℕ) → beats ≤ 4096 → (n : Note) → Fair δ beats n → (c : Cell) → Of δ n c → Fine δ beats c
+  of-fine beats w n f c o =
+      let x : Bounds n c = bounds n c o in
       let e : n .end ≤ beats * δ = f .fits in
       let m : beats * δ ≤ 4096 * δ = mul-le-mul-right δ w in
-      let l = o .lane-is in let si = o .side-is in let st = o .start-is in let en = o .end-is in let ti = o .ticks in let ve = o .velocity-is in
-      let fl = f .lane-below in let lo : velocityOk (n .lane) (n .velocity) ≡ true = f .loud in
+      let l = x .lane-is in let fl = f .lane-below in let lo = x .low-is in let su = x .sum-is in
+      let v : velocityOk (n .lane) (n .velocity) ≡ true = f .loud in
       record {
         lane-below = omega arith;
         beat-below = elim (decLe (suc (c .beat)) beats) [ yes h ↦ h | no h ↦ let k : beats * δ ≤ c .beat * δ = mul-le-mul-right δ (omega arith) in absurd (omega arith) ];
-        side-below = omega arith;
-        loud = rw (l, ve) lo;
+        side-below = x .side-is;
+        loud = rw (l, x .velocity-is) v;
         sum = omega arith;
-        open-ticks = λ x. absurd (true≢false (sym x ∙ ne-eqb (c .side) 0 (omega arith)));
-        close-ticks = λ x. ti;
+        open-ticks = x .open-ticks;
+        close-ticks = x .close-ticks;
       }
 
   -- pieces
@@ -204,15 +226,6 @@ module _ (δ : ℕ) (z : 0 < δ) where
   apart-note n = apart-count n (suc ((n .end - 1) / δ) - n .start / δ) (n .start / δ)
 
   -- order of two notes' cells
-  record Bounds (n : Note) (c : Cell) : Type 0 where
-    lane-is : c .lane ≡ n .lane
-    low-is : c .beat * δ < n .end
-    high-is : n .start < suc (c .beat) * δ
-
-  bounds : (n : Note) (c : Cell) → Of δ n c → Bounds n c
-  bounds n c (opens o) = let st = o .start-is in let en = o .end-is in let ti = o .ticks in record { lane-is = o .lane-is; low-is = omega arith; high-is = omega arith }
-  bounds n c (closes o) = let st = o .start-is in let en = o .end-is in let ti = o .ticks in record { lane-is = o .lane-is; low-is = omega arith; high-is = omega arith }
-
   same-beat : (n m : Note) (c d : Cell) → n .lane ≡ m .lane → n .end ≤ m .start → c .beat ≡ d .beat → Of δ n c → Of δ m d → Apart δ c d
   same-beat n m c d l h b (opens o) (opens p) =
       let k : c .beat * δ ≡ d .beat * δ = ap (λ (i : ℕ). i * δ) b in
