@@ -37,3 +37,4 @@ pub mod Reached
 pub mod Sweep
 pub mod Linear
 pub mod Joining
+pub mod CutMerge
