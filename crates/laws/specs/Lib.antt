@@ -38,3 +38,4 @@ pub mod Sweep
 pub mod Linear
 pub mod Joining
 pub mod CutMerge
+pub mod CutLines
