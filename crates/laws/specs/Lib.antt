@@ -39,3 +39,4 @@ pub mod Linear
 pub mod Joining
 pub mod CutMerge
 pub mod CutLines
+pub mod Cutting
