@@ -164,7 +164,7 @@ module _ (H : Header) (beats : ℕ) (z : 0 < (H .delta)) (le : (H .epsilon) ≤ 
   unfolding boundNext
   next-opens x r rs e = and-left (meet x r) (bound H x r) e
 
-  seam : (c x : Cell) (cs : List Cell) (n : Note) (r : Cell) (rs : List Cell) → Front c x cs (r ∷ rs) n → boundNext H x (r ∷ rs) ≡ true → (m : Note) × (ms : List Note) × Seam c x cs n r rs m ms
+  pub seam : (c x : Cell) (cs : List Cell) (n : Note) (r : Cell) (rs : List Cell) → Front c x cs (r ∷ rs) n → boundNext H x (r ∷ rs) ≡ true → (m : Note) × (ms : List Note) × Seam c x cs n r rs m ms
   seam c x cs n r rs f e =
       let t : meet x r ≡ true = next-opens x r rs e in
       let w = meets H z le (λ b. true) (down (λ b e. e)) x r t in
@@ -204,19 +204,22 @@ module _ (H : Header) (beats : ℕ) (z : 0 < (H .delta)) (le : (H .epsilon) ≤ 
 
   -- ---- cutting notes
 
-  -- What cuts notes as the kept beats have them: a piece that ends its note is kept whole or dropped; of a piece n bound to a note m behind it,
-  -- both are kept, or one of them as its cell on the line says, or what is left is left of m.
+  -- A piece n with first cell c that ends its note.
+  pub record AtEnd (cut : Note → List Note) (c : Cell) (n : Note) : Type 0 where
+    pub kept-end : q c ≡ true → cut n ≡ n ∷ []
+    pub dropped-end : q c ≡ false → cut n ≡ []
+
+  -- A piece n, with cells c to x, bound to the cell r, with which the note m begins: both are left, or one, if its cell on the line stands alone, or what is left of m.
+  pub record AtSeam (cut : Note → List Note) (c x r : Cell) (n m : Note) : Type 0 where
+    pub kept-kept : q c ≡ true → q r ≡ true → (l : Note) × (cut m ≡ l ∷ []) × (cut (joined n m) ≡ joined n l ∷ [])
+    pub kept-dropped : q c ≡ true → q r ≡ false → (cut m ≡ []) × (cut (joined n m) ≡ consIf (standsAlone H x) n [])
+    pub dropped-kept : q c ≡ false → q r ≡ true → (cut m ≡ m ∷ []) × (cut (joined n m) ≡ consIf (standsAlone H r) m [])
+    pub dropped-dropped : q c ≡ false → q r ≡ false → cut (joined n m) ≡ cut m
+
+  -- It cuts notes as the kept beats have them.
   pub record Cuts (cut : Note → List Note) : Type 0 where
-    pub kept-end : {c x : Cell} {cs rest : List Cell} {n : Note} → Front c x cs rest n → q c ≡ true → cut n ≡ n ∷ []
-    pub dropped-end : {c x : Cell} {cs rest : List Cell} {n : Note} → Front c x cs rest n → q c ≡ false → cut n ≡ []
-    pub kept-kept : {c x : Cell} {cs : List Cell} {n : Note} {r : Cell} {rs : List Cell} {m : Note} {ms : List Note} → Seam c x cs n r rs m ms → q c ≡ true → q r ≡ true
-        → (l : Note) × (cut m ≡ l ∷ []) × (cut (joined n m) ≡ joined n l ∷ [])
-    pub kept-dropped : {c x : Cell} {cs : List Cell} {n : Note} {r : Cell} {rs : List Cell} {m : Note} {ms : List Note} → Seam c x cs n r rs m ms → q c ≡ true → q r ≡ false
-        → (cut m ≡ []) × (cut (joined n m) ≡ consIf (standsAlone H x) n [])
-    pub dropped-kept : {c x : Cell} {cs : List Cell} {n : Note} {r : Cell} {rs : List Cell} {m : Note} {ms : List Note} → Seam c x cs n r rs m ms → q c ≡ false → q r ≡ true
-        → (cut m ≡ m ∷ []) × (cut (joined n m) ≡ consIf (standsAlone H r) m [])
-    pub dropped-dropped : {c x : Cell} {cs : List Cell} {n : Note} {r : Cell} {rs : List Cell} {m : Note} {ms : List Note} → Seam c x cs n r rs m ms → q c ≡ false → q r ≡ false
-        → cut (joined n m) ≡ cut m
+    pub ends : {c x : Cell} {cs rest : List Cell} {n : Note} → Front c x cs rest n → AtEnd cut c n
+    pub seams : {c x : Cell} {cs : List Cell} {n : Note} {r : Cell} {rs : List Cell} {m : Note} {ms : List Note} → Seam c x cs n r rs m ms → AtSeam cut c x r n m
 
   module _ (cut : Note → List Note) (k : Cuts cut) where
     -- The first cell, if it goes on from the one before it, is an opening cell.
@@ -246,7 +249,7 @@ module _ (H : Header) (beats : ℕ) (z : 0 < (H .delta)) (le : (H .epsilon) ≤ 
     kept-put : (c x : Cell) (cs rest : List Cell) (n : Note) → Front c x cs rest n → q c ≡ true → (held : Bool) → (held ≡ true → opening c ≡ true)
         → put n (firstKept rest && boundNext H x rest) (standsAlone H x || held) (gather cut (walk H (boundNext H x rest) rest))
         ≡ gather cut (put n (boundNext H x rest) (standsAlone H x || held) (walk H (boundNext H x rest) rest))
-    kept-put c x cs [] n f e held o = unfold boundNext in kept-shown n (walk H false []) (standsAlone H x || held) (k .kept-end f e)
+    kept-put c x cs [] n f e held o = unfold boundNext in kept-shown n (walk H false []) (standsAlone H x || held) (k .ends f .kept-end e)
     kept-put c x cs (r ∷ rs) n f e held o = go (boundNext H x (r ∷ rs)) refl (q r) refl
       where
         -- what goes on into a dropped cell is shown if its own cell stands alone
@@ -259,19 +262,19 @@ module _ (H : Header) (beats : ℕ) (z : 0 < (H .delta)) (le : (H .epsilon) ≤ 
             → put n (t && b) (standsAlone H x || held) (gather cut (walk H b (r ∷ rs))) ≡ gather cut (put n b (standsAlone H x || held) (walk H b (r ∷ rs)))
         go true g true u =
             let s = seam c x cs n r rs f g in
-            let l = k .kept-kept (s .2) e u in
+            let l = k .seams (s .2) .kept-kept e u in
             rw (s .2 .behind .held, l .1, l .2)
         go true g false u =
             let s = seam c x cs n r rs f g in
-            let l = k .kept-dropped (s .2) e u in
+            let l = k .seams (s .2) .kept-dropped e u in
             rw (s .2 .behind .held, l .0, l .1) (off g held o (standsAlone H x) refl (gather cut (s .1)))
-        go false g true u = kept-shown n (walk H false (r ∷ rs)) (standsAlone H x || held) (k .kept-end f e)
-        go false g false u = kept-shown n (walk H false (r ∷ rs)) (standsAlone H x || held) (k .kept-end f e)
+        go false g true u = kept-shown n (walk H false (r ∷ rs)) (standsAlone H x || held) (k .ends f .kept-end e)
+        go false g false u = kept-shown n (walk H false (r ∷ rs)) (standsAlone H x || held) (k .ends f .kept-end e)
 
     -- a piece that is dropped in front
     dropped-put : (c x : Cell) (cs rest : List Cell) (n : Note) → Front c x cs rest n → q c ≡ false → (shown : Bool) → Law rest
         → walk H false (keep q rest) ≡ gather cut (put n (boundNext H x rest) shown (walk H (boundNext H x rest) rest))
-    dropped-put c x cs [] n f e shown ih = unfold boundNext in law-unheld [] ih ∙ dropped-shown n (walk H false []) shown (k .dropped-end f e)
+    dropped-put c x cs [] n f e shown ih = unfold boundNext in law-unheld [] ih ∙ dropped-shown n (walk H false []) shown (k .ends f .dropped-end e)
     dropped-put c x cs (r ∷ rs) n f e shown ih = go (boundNext H x (r ∷ rs)) refl (q r) refl
       where
         on : (a : Bool) (m : Note) (ms : List Note) → cut m ≡ m ∷ [] → gather cut (consIf a m ms) ≡ consIf a m [] ++ gather cut ms
@@ -281,13 +284,13 @@ module _ (H : Header) (beats : ℕ) (z : 0 < (H .delta)) (le : (H .epsilon) ≤ 
         go : (b : Bool) → boundNext H x (r ∷ rs) ≡ b → (t : Bool) → q r ≡ t → walk H false (keep q (r ∷ rs)) ≡ gather cut (put n b shown (walk H b (r ∷ rs)))
         go true g true u =
             let s = seam c x cs n r rs f g in
-            let l = k .dropped-kept (s .2) e u in
+            let l = k .seams (s .2) .dropped-kept e u in
             law-unheld (r ∷ rs) ih ∙ rw (s .2 .behind .unheld, s .2 .behind .held, l .1) (on (standsAlone H r) (s .0) (s .1) (l .0))
         go true g false u =
             let s = seam c x cs n r rs f g in
             let i : walk H (q r && true) (keep q (r ∷ rs)) ≡ gather cut (walk H true (r ∷ rs)) = ih true (λ h. bound-opening x (r ∷ rs) g) in
-            ap (λ (t : Bool). walk H t (keep q (r ∷ rs))) (sym (rw u)) ∙ i ∙ rw (s .2 .behind .held, k .dropped-dropped (s .2) e u)
-        go false g t u = law-unheld (r ∷ rs) ih ∙ dropped-shown n (walk H false (r ∷ rs)) shown (k .dropped-end f e)
+            ap (λ (t : Bool). walk H t (keep q (r ∷ rs))) (sym (rw u)) ∙ i ∙ rw (s .2 .behind .held, k .seams (s .2) .dropped-dropped e u)
+        go false g t u = law-unheld (r ∷ rs) ih ∙ dropped-shown n (walk H false (r ∷ rs)) shown (k .ends f .dropped-end e)
 
     law : (c x : Cell) (cs rest : List Cell) (n : Note) → Front c x cs rest n → Law rest → Law (c ∷ cs)
     law c x cs rest n f ih held o = go (q c) refl

@@ -8,7 +8,7 @@ use Prim.Native.Nat.{_*_, _-_, _<_, _≤_, ℕ}
 use native.Mathlib.Decide.{ℕ-discrete}
 use native.Mathlib.Omega.{arith}
 use lib.Dec.{eqb, leb, ltb}
-use borrow.Author.Tests.{eq-eqb, eqb-true, le-ltb, lt-ltb, ltb-false, ltb-true, ne-eqb}
+use borrow.Author.Tests.{eq-eqb, eqb-true, le-leb, le-ltb, lt-leb, lt-ltb, ltb-false, ltb-true, ne-eqb}
 use Rattle.model.specs.Binding.{opening, standsAlone}
 use Rattle.model.specs.Lists.{consIf, gather}
 use Rattle.model.specs.declared.Cell.{Cell}
@@ -25,6 +25,19 @@ use Rattle.laws.specs.Sweep.{earlier, skip}
 -- A note's parts at the line: `before` if it ends there or before it, `behind` if it starts there or behind it, else `across`, from its lane's cell on the line.
 unfoldable pub cutBy : ℕ → (Note → List Note) → (Note → List Note) → (Note → Option Cell → List Note) → (ℕ → Option Cell) → Note → List Note
 cutBy line before behind across at n = cond (leb (n .end) line) (before n) (cond (leb line (n .start)) (behind n) (across n (at (n .lane))))
+
+module _ (line : ℕ) (before behind : Note → List Note) (across : Note → Option Cell → List Note) (at : ℕ → Option Cell) (n : Note) where
+  pub by-before : n .end ≤ line → cutBy line before behind across at n ≡ before n
+  unfolding cutBy
+  by-before h = rw (le-leb (n .end) line h)
+
+  pub by-behind : line < n .end → line ≤ n .start → cutBy line before behind across at n ≡ behind n
+  unfolding cutBy
+  by-behind h i = rw (lt-leb (n .end) line h, le-leb line (n .start) i)
+
+  pub by-across : line < n .end → n .start < line → cutBy line before behind across at n ≡ across n (at (n .lane))
+  unfolding cutBy
+  by-across h i = rw (lt-leb (n .end) line h, lt-leb line (n .start) i)
 
 -- The note s ticks earlier.
 abbrev pub noteBack : ℕ → Note → Note

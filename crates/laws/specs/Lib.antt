@@ -40,3 +40,4 @@ pub mod Joining
 pub mod CutMerge
 pub mod CutLines
 pub mod Cutting
+pub mod CutHalves
