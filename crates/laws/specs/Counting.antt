@@ -280,7 +280,7 @@ module _ (H : Header) (k : ℕ) where
   bound-back c [] a b = refl
   bound-back c (d ∷ ds) a b = ap₂ _&&_ (meet-back c d a (b .0)) (moved-bound H (c .beat - k) (d .beat - k) c d)
 
-  link-back : (c : Cell) (cs : List Cell) → k ≤ c .beat → All (λ d. k ≤ d .beat) cs → linked H (back c) (map back cs) ≡ linked H c cs
+  pub link-back : (c : Cell) (cs : List Cell) → k ≤ c .beat → All (λ d. k ≤ d .beat) cs → linked H (back c) (map back cs) ≡ linked H c cs
   unfolding linked fills
   link-back c cs a b = ap (λ (t : Bool). fills (H .delta) c || t) (bound-back c cs a b)
 

@@ -1,4 +1,4 @@
--- What a split leaves of a note, and one pass over notes and cells that leaves it of all notes. That it is so: CutHalves.
+-- What a split leaves of a note, and one pass over notes and cells that leaves it of all notes. That it is so: Halves.
 -- Assumes nothing.
 use mathlib.Core.Bool.{Bool, _&&_, _||_, cond, false, true, true≢false}
 use mathlib.Core.List.{List, [], _++_, _∷_}

@@ -40,4 +40,5 @@ pub mod Joining
 pub mod CutMerge
 pub mod CutLines
 pub mod Cutting
-pub mod CutHalves
+pub mod CutSides
+pub mod Halves

@@ -1,4 +1,4 @@
--- The notes of a half of a solid take are the take's notes, cut at the line.
+-- Pieces and notes at the line of a split: they are cut as the beats on either side of it have them.
 -- Assumes nothing.
 use mathlib.Core.Bool.{Bool, _&&_, _||_, cond, false, true, true≢false}
 use mathlib.Core.List.{List, [], _++_, _∷_, map}
@@ -152,5 +152,87 @@ module _ (H : Header) (beats : ℕ) (z : 0 < (H .delta)) (le : (H .epsilon) ≤ 
             left-out (joined n m) (omega arith) (omega arith) ∙ sym (left-out m (omega arith) more);
       }
 
-  left-cuts : Cuts H beats z le (λ b. ltb b k) (Found at (k - 1) 1) (leftBy H k at)
+  pub left-cuts : Cuts H beats z le (λ b. ltb b k) (Found at (k - 1) 1) (leftBy H k at)
   left-cuts = record { ends = left-end; seams = left-seam }
+
+-- ---- right of the line, at the old place
+
+-- What the right half has of a note, not yet moved.
+unfoldable pub crossStay : Header → ℕ → Note → Option Cell → List Note
+unfolding standsAlone
+crossStay H k n none = []
+crossStay H k n (some c) = consIf (standsAlone H c) (record { lane = n .lane; start = k * H .delta; end = n .end; velocity = c .velocity }) []
+
+unfoldable pub stayBy : Header → ℕ → (ℕ → Option Cell) → Note → List Note
+unfolding cutBy crossStay
+stayBy H k = cutBy (k * H .delta) (λ n. []) (λ n. n ∷ []) (crossStay H k)
+
+module _ (H : Header) (beats : ℕ) (z : 0 < (H .delta)) (le : (H .epsilon) ≤ (H .delta)) (k : ℕ) (at : ℕ → Option Cell) where
+  right-out : (n : Note) → n .end ≤ k * H .delta → stayBy H k at n ≡ []
+  unfolding stayBy
+  right-out n h = by-before (k * H .delta) (λ n. []) (λ n. n ∷ []) (crossStay H k) at n h
+
+  right-in : (n : Note) → k * H .delta ≤ n .start → n .start < n .end → stayBy H k at n ≡ n ∷ []
+  unfolding stayBy
+  right-in n h i = by-behind (k * H .delta) (λ n. []) (λ n. n ∷ []) (crossStay H k) at n (omega arith) h
+
+  right-across : (n : Note) → n .start < k * H .delta → k * H .delta < n .end → stayBy H k at n ≡ crossStay H k n (at (n .lane))
+  unfolding stayBy
+  right-across n h i = by-across (k * H .delta) (λ n. []) (λ n. n ∷ []) (crossStay H k) at n i h
+
+  -- only the lane and the end count
+  cross-same : (m n : Note) (o : Option Cell) → m .lane ≡ n .lane → m .end ≡ n .end → crossStay H k m o ≡ crossStay H k n o
+  unfolding crossStay
+  cross-same m n none l e = refl
+  cross-same m n (some c) l e = ap (λ (v : Note). consIf (standsAlone H c) v []) (note-same l refl e refl)
+
+  abbrev RightFront : Cell → Cell → List Cell → List Cell → Note → Type 0
+  RightFront c x cs rest n = Front H beats z le (λ b. leb k b) (Found at k 0) c x cs rest n
+
+  abbrev RightSeam : Cell → Cell → List Cell → Note → Cell → List Cell → Note → List Note → Type 0
+  RightSeam c x cs n r rs m ms = Seam H beats z le (λ b. leb k b) (Found at k 0) c x cs n r rs m ms
+
+  right-end : {c x : Cell} {cs rest : List Cell} {n : Note} → RightFront c x cs rest n → AtEnd H beats z le (λ b. leb k b) (Found at k 0) (stayBy H k at) c n
+  right-end {c} {x} {cs} {rest} {n} f =
+      let u = f .spans .upto in
+      let v = f .spans .from in
+      let o = f .spans .is-fair .order in
+      record {
+        kept-end = λ e. let m = lines H beats z le k at k (c .beat) (leb-true k (c .beat) e) in right-in n (omega arith) o;
+        dropped-end = λ e. let h : c .beat < k = leb-false k (c .beat) e in let m = lines H beats z le k at (suc (c .beat)) k h in right-out n (omega arith);
+      }
+
+  right-seam : {c x : Cell} {cs : List Cell} {n : Note} {r : Cell} {rs : List Cell} {m : Note} {ms : List Note} → RightSeam c x cs n r rs m ms
+      → AtSeam H beats z le (λ b. leb k b) (Found at k 0) (stayBy H k at) c x r n m
+  unfolding crossStay
+  right-seam {c} {x} {cs} {n} {r} {rs} {m} {ms} s =
+      let next = s .next-beat in
+      let line = s .on-line in
+      let tick = s .one-tick in
+      let order = s .front .spans .is-fair .order in
+      let more = s .behind .order in
+      record {
+        kept-kept = λ e u.
+            let g = lines H beats z le k at k (c .beat) (leb-true k (c .beat) e) in
+            let v = s .front .spans .from in
+            (m, right-in m (omega arith) more, right-in (joined n m) (omega arith) (omega arith));
+        kept-dropped = λ e u. let h : k ≤ c .beat = leb-true k (c .beat) e in let i : r .beat < k = leb-false k (r .beat) u in absurd (omega arith);
+        dropped-kept = λ e u.
+            let h : c .beat < k = leb-false k (c .beat) e in
+            let i : k ≤ r .beat = leb-true k (r .beat) u in
+            let l : suc (c .beat) * (H .delta) ≡ k * (H .delta) = ap (λ (b : ℕ). b * (H .delta)) (omega arith) in
+            let o : at (n .lane) ≡ some r = ap at (sym (s .one-lane) ∙ s .behind .lane-is) ∙ s .front .behind .all-known .0 (omega arith) (s .opens) in (
+              right-in m (omega arith) more,
+              right-across (joined n m) (omega arith) (omega arith) ∙ rw o (ap (λ (v : Note). consIf (standsAlone H r) v []) (note-same (sym (s .one-lane)) (omega arith) refl (sym (s .behind .velocity-is)))),
+            );
+        dropped-dropped = λ e u.
+            let i : r .beat < k = leb-false k (r .beat) u in
+            let h = lines H beats z le k at (suc (suc (c .beat))) k (omega arith) in
+            elim (decLe (m .end) (k * H .delta)) [
+              | yes j ↦ right-out (joined n m) j ∙ sym (right-out m j)
+              | no j ↦ right-across (joined n m) (omega arith) (omega arith) ∙ ap (λ (l : ℕ). crossStay H k (joined n m) (at l)) (sym (s .one-lane)) ∙ cross-same (joined n m) m (at (m .lane)) (sym (s .one-lane)) refl ∙ sym (right-across m (omega arith) (omega arith))
+            ];
+      }
+
+  pub right-cuts : Cuts H beats z le (λ b. leb k b) (Found at k 0) (stayBy H k at)
+  right-cuts = record { ends = right-end; seams = right-seam }
