@@ -5,7 +5,6 @@ use mathlib.Core.List.{List, [], _++_, _∷_}
 use mathlib.Core.Path.{_∙_, _≡_, ap, refl, sym}
 use Prim.Native.Nat.{_*_, _<_, _≤_, suc, ℕ}
 use native.Mathlib.Omega.{arith}
-use lib.Dec.{eqb}
 use borrow.Author.Tests.{eq-eqb, eqb-true, ne-eqb}
 use Rattle.model.specs.Binding.{bound, boundNext, endOf, fills, goOn, meet, opening, standsAlone, startOf}
 use Rattle.model.specs.Lists.{consIf, gather, keep}
@@ -14,9 +13,8 @@ use Rattle.model.specs.declared.Cell.{Cell}
 use Rattle.model.specs.declared.Header.{Header}
 use Rattle.model.specs.declared.Note.{Note}
 use Rattle.laws.specs.Booleans.{and-left, and-no, or-false, or-right}
-use Rattle.laws.specs.Counting.{Meets, down, meets, no-skip}
+use Rattle.laws.specs.Counting.{Edge, down, meets, no-skip}
 use Rattle.laws.specs.Lines.{close-end, meet-line}
-use Rattle.laws.specs.Notes.{Fair, Long}
 use Rattle.laws.specs.Order.{walk-fair}
 use Rattle.laws.specs.Relations.{All, Pairs, all-keep}
 use Rattle.laws.specs.Rules.{Pair, Pieced, double, fill-close-alone, fill-open-alone, meet-open, open-free, own, pair-fills, pair-filled, single, span, stop}
@@ -31,6 +29,10 @@ put n on shown ns = cond on (goOn n ns) (cond shown (n ∷ ns) ns)
 -- A piece and the note behind it as one.
 abbrev pub joined : Note → Note → Note
 joined n m = record { lane = n .lane; start = n .start; end = m .end; velocity = n .velocity }
+
+-- What `Counting` says of two cells holds whatever beats are kept.
+every-beat : Edge (λ b. true)
+every-beat = down (λ b e. e)
 
 -- p: the beats that are kept; Known: what else is known of each cell.
 module _ (H : Header) (beats : ℕ) (z : 0 < (H .delta)) (le : (H .epsilon) ≤ (H .delta)) (p : ℕ → Bool) (Known : Cell → Type 0) where
@@ -60,10 +62,12 @@ module _ (H : Header) (beats : ℕ) (z : 0 < (H .delta)) (le : (H .epsilon) ≤ 
     -- a piece that touches its opening line and is bound behind it fills its beat
     pub steady : opening c ≡ true → boundNext H x rest ≡ true → standsAlone H x ≡ true
     pub walks : (held : Bool) → walk H held (c ∷ cs) ≡ put n (boundNext H x rest) (standsAlone H x || held) (walk H (boundNext H x rest) rest)
-    pub kept : q c ≡ true → (held : Bool) → walk H held (keep q (c ∷ cs)) ≡ put n (boundNext H x (keep q rest)) (standsAlone H x || held) (walk H (boundNext H x (keep q rest)) (keep q rest))
+    pub kept : q c ≡ true → (held : Bool)
+        → walk H held (keep q (c ∷ cs)) ≡ put n (boundNext H x (keep q rest)) (standsAlone H x || held) (walk H (boundNext H x (keep q rest)) (keep q rest))
     pub dropped : q c ≡ false → keep q (c ∷ cs) ≡ keep q rest
 
-  front-single : (c : Cell) (cs : List Cell) → fills (H .delta) c ≡ false → filled (H .delta) c ≡ false → Cells (c ∷ cs) → Cells cs → Front c c cs cs (own (H .delta) c)
+  front-single : (c : Cell) (cs : List Cell) → fills (H .delta) c ≡ false → filled (H .delta) c ≡ false → Cells (c ∷ cs) → Cells cs
+      → Front c c cs cs (own (H .delta) c)
   front-single c cs f g k r = record {
     spans = spans-single (H .delta) beats z c f g (k .all-fine .0);
     velocity-is = unfold own in refl;
@@ -101,7 +105,9 @@ module _ (H : Header) (beats : ℕ) (z : 0 < (H .delta)) (le : (H .epsilon) ≤ 
       }
 
   -- what holds of no cells, and of cells with a piece in front if it holds of those behind it, holds of all cells
-  pub by-piece : (P : List Cell → Type 0) → P [] → ((c x : Cell) (cs rest : List Cell) (n : Note) → Front c x cs rest n → Cells (c ∷ cs) → P rest → P (c ∷ cs)) → {cs : List Cell} → Cells cs → P cs
+  pub by-piece : (P : List Cell → Type 0) → P []
+      → ((c x : Cell) (cs rest : List Cell) (n : Note) → Front c x cs rest n → Cells (c ∷ cs) → P rest → P (c ∷ cs)) → {cs : List Cell} → Cells cs
+      → P cs
   by-piece P base step k = go (k .in-pieces) k
     where
       fewer : (c : Cell) (cs : List Cell) → Pieced (H .delta) cs → Cells (c ∷ cs) → Cells cs
@@ -135,12 +141,14 @@ module _ (H : Header) (beats : ℕ) (z : 0 < (H .delta)) (le : (H .epsilon) ≤ 
   front-opened : (c x : Cell) (cs rest : List Cell) (n : Note) → Front c x cs rest n → Cells (c ∷ cs) → opening c ≡ true → SomeOpened c cs
   front-opened c x cs rest n f k o = go (boundNext H x rest) refl (walk H (boundNext H x rest) rest) (f .walks true) (f .walks false)
     where
-      made : (m : Note) (ms : List Note) → walk H true (c ∷ cs) ≡ m ∷ ms → walk H false (c ∷ cs) ≡ consIf (standsAlone H c) m ms → m .lane ≡ n .lane → m .start ≡ n .start → m .velocity ≡ n .velocity → SomeOpened c cs
+      made : (m : Note) (ms : List Note) → walk H true (c ∷ cs) ≡ m ∷ ms → walk H false (c ∷ cs) ≡ consIf (standsAlone H c) m ms → m .lane ≡ n .lane
+          → m .start ≡ n .start → m .velocity ≡ n .velocity → SomeOpened c cs
       made m ms t u l s v =
           let a = walk-fair H beats z (k .in-pieces) (k .all-fine) (k .all-apart) true in
           (m, ms, record { held = t; unheld = u; lane-is = l ∙ f .spans .is-lane; start-is = s ∙ f .spans .is-start; velocity-is = v ∙ f .velocity-is; order = (rw t at a) .0 .order })
 
-      go : (b : Bool) → boundNext H x rest ≡ b → (ns : List Note) → walk H true (c ∷ cs) ≡ put n b (standsAlone H x || true) ns → walk H false (c ∷ cs) ≡ put n b (standsAlone H x || false) ns → SomeOpened c cs
+      go : (b : Bool) → boundNext H x rest ≡ b → (ns : List Note) → walk H true (c ∷ cs) ≡ put n b (standsAlone H x || true) ns
+          → walk H false (c ∷ cs) ≡ put n b (standsAlone H x || false) ns → SomeOpened c cs
       go true e [] t u = made n [] t (u ∙ rw (sym (f .alone-last) ∙ f .steady o e)) refl refl refl
       go true e (h ∷ hs) t u = made (joined n h) hs t (u ∙ rw (sym (f .alone-last) ∙ f .steady o e)) refl refl refl
       go false e ns t u = made n ns (t ∙ rw (or-right (standsAlone H x) {b = true} refl)) (u ∙ rw (or-false (standsAlone H x), f .alone-last) (cons-cond (standsAlone H c) ns)) refl refl refl
@@ -164,10 +172,11 @@ module _ (H : Header) (beats : ℕ) (z : 0 < (H .delta)) (le : (H .epsilon) ≤ 
   unfolding boundNext
   next-opens x r rs e = and-left (meet x r) (bound H x r) e
 
-  pub seam : (c x : Cell) (cs : List Cell) (n : Note) (r : Cell) (rs : List Cell) → Front c x cs (r ∷ rs) n → boundNext H x (r ∷ rs) ≡ true → (m : Note) × (ms : List Note) × Seam c x cs n r rs m ms
+  pub seam : (c x : Cell) (cs : List Cell) (n : Note) (r : Cell) (rs : List Cell) → Front c x cs (r ∷ rs) n → boundNext H x (r ∷ rs) ≡ true
+      → (m : Note) × (ms : List Note) × Seam c x cs n r rs m ms
   seam c x cs n r rs f e =
       let t : meet x r ≡ true = next-opens x r rs e in
-      let w = meets H z le (λ b. true) (down (λ b e. e)) x r t in
+      let w = meets H z le (λ b. true) every-beat x r t in
       let o = by-piece Opens tt (λ c x cs rest n f k ih. front-opened c x cs rest n f k) (f .behind) (eq-eqb (r .side) 0 (w .opens-it)) in
       let s : startOf (H .delta) r ≡ endOf (H .delta) x = meet-line (H .delta) z x r t in (
         o .0,
@@ -192,14 +201,15 @@ module _ (H : Header) (beats : ℕ) (z : 0 < (H .delta)) (le : (H .epsilon) ≤ 
   firstKept (c ∷ cs) = q c
 
   -- a cell is bound to the next kept one where it is bound to the next and that is kept
-  bound-kept : (x : Cell) (cs : List Cell) → All (Apart (H .delta) x) cs → Pairs (Apart (H .delta)) cs → boundNext H x (keep q cs) ≡ firstKept cs && boundNext H x cs
+  bound-kept : (x : Cell) (cs : List Cell) → All (Apart (H .delta) x) cs → Pairs (Apart (H .delta)) cs
+      → boundNext H x (keep q cs) ≡ firstKept cs && boundNext H x cs
   unfolding boundNext
   bound-kept x [] a s = refl
   bound-kept x (d ∷ ds) a s = go (q d) refl (boundNext H x (keep q ds)) refl
     where
       go : (b : Bool) → q d ≡ b → (t : Bool) → boundNext H x (keep q ds) ≡ t → boundNext H x (consIf b d (keep q ds)) ≡ b && boundNext H x (d ∷ ds)
       go true e t u = refl
-      go false e true u = absurd (no-skip H z le (λ b. true) (down (λ b e. e)) x d (keep q ds) (a .0) (all-keep (Apart (H .delta) d) q ds (s .0)) u)
+      go false e true u = absurd (no-skip H z le (λ b. true) every-beat x d (keep q ds) (a .0) (all-keep (Apart (H .delta) d) q ds (s .0)) u)
       go false e false u = u
 
   -- ---- cutting notes
@@ -219,7 +229,8 @@ module _ (H : Header) (beats : ℕ) (z : 0 < (H .delta)) (le : (H .epsilon) ≤ 
   -- It cuts notes as the kept beats have them.
   pub record Cuts (cut : Note → List Note) : Type 0 where
     pub ends : {c x : Cell} {cs rest : List Cell} {n : Note} → Front c x cs rest n → AtEnd cut c n
-    pub seams : {c x : Cell} {cs : List Cell} {n : Note} {r : Cell} {rs : List Cell} {m : Note} {ms : List Note} → Seam c x cs n r rs m ms → AtSeam cut c x r n m
+    pub seams : {c x : Cell} {cs : List Cell} {n : Note} {r : Cell} {rs : List Cell} {m : Note} {ms : List Note} → Seam c x cs n r rs m ms
+        → AtSeam cut c x r n m
 
   module _ (cut : Note → List Note) (k : Cuts cut) where
     -- The first cell, if it goes on from the one before it, is an opening cell.
@@ -237,7 +248,8 @@ module _ (H : Header) (beats : ℕ) (z : 0 < (H .delta)) (le : (H .epsilon) ≤ 
     bound-opening x [] e = absurd (unfold boundNext in true≢false (sym e))
     bound-opening x (r ∷ rs) e = meet-open x r (next-opens x r rs e)
 
-    kept-shown : (n : Note) (ns : List Note) (shown : Bool) → cut n ≡ n ∷ [] → cond shown (n ∷ gather cut ns) (gather cut ns) ≡ gather cut (cond shown (n ∷ ns) ns)
+    kept-shown : (n : Note) (ns : List Note) (shown : Bool) → cut n ≡ n ∷ []
+        → cond shown (n ∷ gather cut ns) (gather cut ns) ≡ gather cut (cond shown (n ∷ ns) ns)
     kept-shown n ns true e = rw e
     kept-shown n ns false e = refl
 
@@ -253,7 +265,8 @@ module _ (H : Header) (beats : ℕ) (z : 0 < (H .delta)) (le : (H .epsilon) ≤ 
     kept-put c x cs (r ∷ rs) n f e held o = go (boundNext H x (r ∷ rs)) refl (q r) refl
       where
         -- what goes on into a dropped cell is shown if its own cell stands alone
-        off : boundNext H x (r ∷ rs) ≡ true → (b : Bool) → (b ≡ true → opening c ≡ true) → (a : Bool) → standsAlone H x ≡ a → (ns : List Note) → cond (a || b) (n ∷ ns) ns ≡ consIf a n [] ++ ns
+        off : boundNext H x (r ∷ rs) ≡ true → (b : Bool) → (b ≡ true → opening c ≡ true) → (a : Bool) → standsAlone H x ≡ a → (ns : List Note)
+            → cond (a || b) (n ∷ ns) ns ≡ consIf a n [] ++ ns
         off g b i true j ns = refl
         off g true i false j ns = absurd (true≢false (sym (f .steady (i refl) g) ∙ j))
         off g false i false j ns = refl
@@ -281,7 +294,8 @@ module _ (H : Header) (beats : ℕ) (z : 0 < (H .delta)) (le : (H .epsilon) ≤ 
         on true m ms h = rw h
         on false m ms h = refl
 
-        go : (b : Bool) → boundNext H x (r ∷ rs) ≡ b → (t : Bool) → q r ≡ t → walk H false (keep q (r ∷ rs)) ≡ gather cut (put n b shown (walk H b (r ∷ rs)))
+        go : (b : Bool) → boundNext H x (r ∷ rs) ≡ b → (t : Bool) → q r ≡ t
+            → walk H false (keep q (r ∷ rs)) ≡ gather cut (put n b shown (walk H b (r ∷ rs)))
         go true g true u =
             let s = seam c x cs n r rs f g in
             let l = k .seams (s .2) .dropped-kept e u in

@@ -70,7 +70,8 @@ module _ (s : ℕ) (f : Note → List Note) (parts : (n : Note) → Long n → A
     away = all-imp (λ x. All (Away x) (y ∷ ys)) (λ x. All (Away x) ys) xs (λ x a. a .1) (d .away);
   }
 
-  weave-cut : (x : Note) (xs : List Note) → ((ys : List Note) → Sides xs ys → Merges xs ys) → (ys : List Note) → Sides (x ∷ xs) ys → Merges (x ∷ xs) ys
+  weave-cut : (x : Note) (xs : List Note) → ((ys : List Note) → Sides xs ys → Merges xs ys) → (ys : List Note) → Sides (x ∷ xs) ys
+      → Merges (x ∷ xs) ys
   unfolding merge weave
   weave-cut x xs h [] d =
       ap (_++_ (f x)) (h [] (fewer-first x xs [] d)) ∙ sym (merge-firsts (f x) (gather f xs) [] (parts-before x [] (d .long-first .0) tt tt))

@@ -1,33 +1,32 @@
 -- Pieces and notes at the line of a split: they are cut as the beats on either side of it have them.
 -- Assumes nothing.
-use mathlib.Core.Bool.{Bool, _&&_, _||_, cond, false, true, true≢false}
-use mathlib.Core.List.{List, [], _++_, _∷_, map}
+use mathlib.Core.Bool.{Bool, false, true, true≢false}
+use mathlib.Core.List.{List, [], _∷_}
 use mathlib.Core.Option.{Option, none, some}
 use mathlib.Core.Path.{_∙_, _≡_, ap, refl, sym}
-use Prim.Native.Nat.{_*_, _+_, _-_, _<_, _≤_, suc, ℕ}
+use Prim.Native.Nat.{_*_, _-_, _<_, _≤_, suc, ℕ}
 use native.Mathlib.Decide.{decLe}
 use native.Mathlib.Nat.{mul-le-mul-right}
 use native.Mathlib.Omega.{arith}
-use lib.Dec.{eqb, leb, ltb}
+use lib.Dec.{leb, ltb}
 use borrow.Author.Tests.{eq-eqb, leb-false, leb-true, ltb-false, ltb-true}
 use Rattle.model.specs.Binding.{boundNext, goOn, opening, standsAlone}
-use Rattle.model.specs.Lists.{consIf, gather, keep}
+use Rattle.model.specs.Lists.{consIf}
 use Rattle.model.specs.declared.Cell.{Cell}
 use Rattle.model.specs.declared.Header.{Header}
 use Rattle.model.specs.declared.Note.{Note}
 use Rattle.laws.specs.Booleans.{or-right}
-use Rattle.laws.specs.CutLines.{AtEnd, AtSeam, Cells, Cuts, Front, Seam, by-piece, joined, put, seam, walk-keep}
-use Rattle.laws.specs.Cutting.{Found, by-across, by-before, by-behind, crossLeft, crossRight, cutBy, leftBy, noteBack, rightBy}
-use Rattle.laws.specs.Notes.{Fair, Long, note-same}
-use Rattle.laws.specs.Relations.{All, Pairs}
+use Rattle.laws.specs.CutLines.{AtEnd, AtSeam, Cells, Cuts, Front, Seam, by-piece, joined, put, seam}
+use Rattle.laws.specs.Cutting.{Found, by-across, by-before, by-behind, crossLeft, cutBy, leftBy}
+use Rattle.laws.specs.Notes.{note-same}
 use Rattle.laws.specs.Walk.{walk}
 
 -- ---- left of the line
 
-module _ (H : Header) (beats : ℕ) (z : 0 < (H .delta)) (le : (H .epsilon) ≤ (H .delta)) (k : ℕ) (at : ℕ → Option Cell) where
-  lines : (a b : ℕ) → a ≤ b → a * (H .delta) ≤ b * (H .delta)
-  lines a b h = mul-le-mul-right (H .delta) h
+lines : (δ a b : ℕ) → a ≤ b → a * δ ≤ b * δ
+lines δ a b h = mul-le-mul-right δ h
 
+module _ (H : Header) (k : ℕ) (at : ℕ → Option Cell) where
   left-in : (n : Note) → n .end ≤ k * H .delta → leftBy H k at n ≡ n ∷ []
   unfolding leftBy
   left-in n h = by-before (k * H .delta) (λ n. n ∷ []) (λ n. []) (crossLeft H k) at n h
@@ -41,6 +40,7 @@ module _ (H : Header) (beats : ℕ) (z : 0 < (H .delta)) (le : (H .epsilon) ≤ 
   unfolding leftBy crossLeft
   left-across n c h i e = by-across (k * H .delta) (λ n. n ∷ []) (λ n. []) (crossLeft H k) at n i h ∙ rw e
 
+module _ (H : Header) (beats : ℕ) (z : 0 < (H .delta)) (le : (H .epsilon) ≤ (H .delta)) (k : ℕ) (at : ℕ → Option Cell) where
   abbrev LeftFront : Cell → Cell → List Cell → List Cell → Note → Type 0
   LeftFront c x cs rest n = Front H beats z le (λ b. ltb b k) (Found at (k - 1) 1) c x cs rest n
 
@@ -51,7 +51,8 @@ module _ (H : Header) (beats : ℕ) (z : 0 < (H .delta)) (le : (H .epsilon) ≤ 
   LeftCells cs = Cells H beats z le (λ b. ltb b k) (Found at (k - 1) 1) cs
 
   -- the closing cell at a seam on the line
-  left-found : {c x : Cell} {cs : List Cell} {n : Note} {r : Cell} {rs : List Cell} {m : Note} {ms : List Note} → LeftSeam c x cs n r rs m ms → suc (c .beat) ≡ k → at (n .lane) ≡ some x
+  left-found : {c x : Cell} {cs : List Cell} {n : Note} {r : Cell} {rs : List Cell} {m : Note} {ms : List Note} → LeftSeam c x cs n r rs m ms
+      → suc (c .beat) ≡ k → at (n .lane) ≡ some x
   left-found {c} {x} {cs} {n} s e =
       let b = s .front .beat-last in
       let l : x .lane ≡ n .lane = s .front .lane-last ∙ sym (s .front .spans .is-lane) in
@@ -70,7 +71,8 @@ module _ (H : Header) (beats : ℕ) (z : 0 < (H .delta)) (le : (H .epsilon) ≤ 
   Readies [] = Unit {0}
   Readies (c ∷ cs) = opening c ≡ true → c .beat < k → FirstReady (walk H true (c ∷ cs))
 
-  ready-on : (c x : Cell) (cs rest : List Cell) (n : Note) → LeftFront c x cs rest n → Readies rest → opening c ≡ true → c .beat < k → boundNext H x rest ≡ true → FirstReady (goOn n (walk H true rest))
+  ready-on : (c x : Cell) (cs rest : List Cell) (n : Note) → LeftFront c x cs rest n → Readies rest → opening c ≡ true → c .beat < k
+      → boundNext H x rest ≡ true → FirstReady (goOn n (walk H true rest))
   ready-on c x cs [] n f ih o b e = absurd (unfold boundNext in true≢false (sym e))
   ready-on c x cs (r ∷ rs) n f ih o b e =
       let w = seam H beats z le (λ b. ltb b k) (Found at (k - 1) 1) c x cs n r rs f e in
@@ -93,22 +95,24 @@ module _ (H : Header) (beats : ℕ) (z : 0 < (H .delta)) (le : (H .epsilon) ≤ 
         where
           go : (t : Bool) → boundNext H x rest ≡ t → FirstReady (put n t true (walk H t rest))
           go true e = ready-on c x cs rest n f ih o b e
-          go false e = let m = lines (suc (c .beat)) k b in let u = f .spans .upto in ends (omega arith)
+          go false e = let m = lines (H .delta) (suc (c .beat)) k b in let u = f .spans .upto in ends (omega arith)
 
-  left-end : {c x : Cell} {cs rest : List Cell} {n : Note} → LeftFront c x cs rest n → AtEnd H beats z le (λ b. ltb b k) (Found at (k - 1) 1) (leftBy H k at) c n
+  left-end : {c x : Cell} {cs rest : List Cell} {n : Note} → LeftFront c x cs rest n
+      → AtEnd H beats z le (λ b. ltb b k) (Found at (k - 1) 1) (leftBy H k at) c n
   left-end {c} {x} {cs} {rest} {n} f =
       let u = f .spans .upto in
       let v = f .spans .from in
       let o = f .spans .is-fair .order in
       record {
-        kept-end = λ e. let h : c .beat < k = ltb-true (c .beat) k e in let m = lines (suc (c .beat)) k h in left-in n (omega arith);
-        dropped-end = λ e. let m = lines k (c .beat) (ltb-false (c .beat) k e) in left-out n (omega arith) o;
+        kept-end = λ e. let h : c .beat < k = ltb-true (c .beat) k e in let m = lines (H .delta) (suc (c .beat)) k h in left-in H k at n (omega arith);
+        dropped-end = λ e. let m = lines (H .delta) k (c .beat) (ltb-false (c .beat) k e) in left-out H k at n (omega arith) o;
       }
 
-  left-both : {c x : Cell} {cs : List Cell} {n : Note} {r : Cell} {rs : List Cell} {m : Note} {ms : List Note} → LeftSeam c x cs n r rs m ms → ltb (c .beat) k ≡ true → ltb (r .beat) k ≡ true
+  left-both : {c x : Cell} {cs : List Cell} {n : Note} {r : Cell} {rs : List Cell} {m : Note} {ms : List Note} → LeftSeam c x cs n r rs m ms
+      → ltb (c .beat) k ≡ true → ltb (r .beat) k ≡ true
       → (l : Note) × (leftBy H k at m ≡ l ∷ []) × (leftBy H k at (joined n m) ≡ joined n l ∷ [])
   left-both {c} {x} {cs} {n} {r} {rs} {m} {ms} s e u = elim (decLe (m .end) (k * H .delta)) [
-    | yes h ↦ (m, left-in m h, left-in (joined n m) h)
+    | yes h ↦ (m, left-in H k at m h, left-in H k at (joined n m) h)
     | no h ↦ cross h (rw (s .behind .held) at (ready (s .front .behind) (eq-eqb (r .side) 0 (s .opens)) (ltb-true (r .beat) k u)))
   ]
     where
@@ -123,8 +127,8 @@ module _ (H : Header) (beats : ℕ) (z : 0 < (H .delta)) (le : (H .epsilon) ≤ 
           let tick = s .one-tick in
           let order = s .front .spans .is-fair .order in
           let b : r .beat < k = ltb-true (r .beat) k u in
-          let t = lines (suc (suc (c .beat))) k (omega arith) in
-          (cut, left-across m y (omega arith) (omega arith) i ∙ rw a, left-across (joined n m) y (omega arith) (omega arith) (ap at (sym (s .one-lane)) ∙ i) ∙ rw a)
+          let t = lines (H .delta) (suc (suc (c .beat))) k (omega arith) in
+          (cut, left-across H k at m y (omega arith) (omega arith) i ∙ rw a, left-across H k at (joined n m) y (omega arith) (omega arith) (ap at (sym (s .one-lane)) ∙ i) ∙ rw a)
 
   left-seam : {c x : Cell} {cs : List Cell} {n : Note} {r : Cell} {rs : List Cell} {m : Note} {ms : List Note} → LeftSeam c x cs n r rs m ms
       → AtSeam H beats z le (λ b. ltb b k) (Found at (k - 1) 1) (leftBy H k at) c x r n m
@@ -141,15 +145,15 @@ module _ (H : Header) (beats : ℕ) (z : 0 < (H .delta)) (le : (H .epsilon) ≤ 
             let i : k ≤ r .beat = ltb-false (r .beat) k u in
             let j : suc (c .beat) ≡ k = omega arith in
             let l : suc (c .beat) * (H .delta) ≡ k * (H .delta) = ap (λ (b : ℕ). b * (H .delta)) j in (
-              left-out m (omega arith) more,
-              left-across (joined n m) x (omega arith) (omega arith) (left-found s j) ∙ ap (λ (v : Note). consIf (standsAlone H x) v []) (note-same refl refl (omega arith) refl),
+              left-out H k at m (omega arith) more,
+              left-across H k at (joined n m) x (omega arith) (omega arith) (left-found s j) ∙ ap (λ (v : Note). consIf (standsAlone H x) v []) (note-same refl refl (omega arith) refl),
             );
         dropped-kept = λ e u. let h : k ≤ c .beat = ltb-false (c .beat) k e in let i : r .beat < k = ltb-true (r .beat) k u in absurd (omega arith);
         dropped-dropped = λ e u.
-            let h = lines k (suc (c .beat)) (let h : k ≤ c .beat = ltb-false (c .beat) k e in omega arith) in
-            let g = lines k (c .beat) (ltb-false (c .beat) k e) in
+            let h = lines (H .delta) k (suc (c .beat)) (let h : k ≤ c .beat = ltb-false (c .beat) k e in omega arith) in
+            let g = lines (H .delta) k (c .beat) (ltb-false (c .beat) k e) in
             let v = s .front .spans .from in
-            left-out (joined n m) (omega arith) (omega arith) ∙ sym (left-out m (omega arith) more);
+            left-out H k at (joined n m) (omega arith) (omega arith) ∙ sym (left-out H k at m (omega arith) more);
       }
 
   pub left-cuts : Cuts H beats z le (λ b. ltb b k) (Found at (k - 1) 1) (leftBy H k at)
@@ -159,7 +163,6 @@ module _ (H : Header) (beats : ℕ) (z : 0 < (H .delta)) (le : (H .epsilon) ≤ 
 
 -- What the right half has of a note, not yet moved.
 unfoldable pub crossStay : Header → ℕ → Note → Option Cell → List Note
-unfolding standsAlone
 crossStay H k n none = []
 crossStay H k n (some c) = consIf (standsAlone H c) (record { lane = n .lane; start = k * H .delta; end = n .end; velocity = c .velocity }) []
 
@@ -167,7 +170,7 @@ unfoldable pub stayBy : Header → ℕ → (ℕ → Option Cell) → Note → Li
 unfolding cutBy crossStay
 stayBy H k = cutBy (k * H .delta) (λ n. []) (λ n. n ∷ []) (crossStay H k)
 
-module _ (H : Header) (beats : ℕ) (z : 0 < (H .delta)) (le : (H .epsilon) ≤ (H .delta)) (k : ℕ) (at : ℕ → Option Cell) where
+module _ (H : Header) (k : ℕ) (at : ℕ → Option Cell) where
   right-out : (n : Note) → n .end ≤ k * H .delta → stayBy H k at n ≡ []
   unfolding stayBy
   right-out n h = by-before (k * H .delta) (λ n. []) (λ n. n ∷ []) (crossStay H k) at n h
@@ -186,20 +189,22 @@ module _ (H : Header) (beats : ℕ) (z : 0 < (H .delta)) (le : (H .epsilon) ≤ 
   cross-same m n none l e = refl
   cross-same m n (some c) l e = ap (λ (v : Note). consIf (standsAlone H c) v []) (note-same l refl e refl)
 
+module _ (H : Header) (beats : ℕ) (z : 0 < (H .delta)) (le : (H .epsilon) ≤ (H .delta)) (k : ℕ) (at : ℕ → Option Cell) where
   abbrev RightFront : Cell → Cell → List Cell → List Cell → Note → Type 0
   RightFront c x cs rest n = Front H beats z le (λ b. leb k b) (Found at k 0) c x cs rest n
 
   abbrev RightSeam : Cell → Cell → List Cell → Note → Cell → List Cell → Note → List Note → Type 0
   RightSeam c x cs n r rs m ms = Seam H beats z le (λ b. leb k b) (Found at k 0) c x cs n r rs m ms
 
-  right-end : {c x : Cell} {cs rest : List Cell} {n : Note} → RightFront c x cs rest n → AtEnd H beats z le (λ b. leb k b) (Found at k 0) (stayBy H k at) c n
+  right-end : {c x : Cell} {cs rest : List Cell} {n : Note} → RightFront c x cs rest n
+      → AtEnd H beats z le (λ b. leb k b) (Found at k 0) (stayBy H k at) c n
   right-end {c} {x} {cs} {rest} {n} f =
       let u = f .spans .upto in
       let v = f .spans .from in
       let o = f .spans .is-fair .order in
       record {
-        kept-end = λ e. let m = lines H beats z le k at k (c .beat) (leb-true k (c .beat) e) in right-in n (omega arith) o;
-        dropped-end = λ e. let h : c .beat < k = leb-false k (c .beat) e in let m = lines H beats z le k at (suc (c .beat)) k h in right-out n (omega arith);
+        kept-end = λ e. let m = lines (H .delta) k (c .beat) (leb-true k (c .beat) e) in right-in H k at n (omega arith) o;
+        dropped-end = λ e. let h : c .beat < k = leb-false k (c .beat) e in let m = lines (H .delta) (suc (c .beat)) k h in right-out H k at n (omega arith);
       }
 
   right-seam : {c x : Cell} {cs : List Cell} {n : Note} {r : Cell} {rs : List Cell} {m : Note} {ms : List Note} → RightSeam c x cs n r rs m ms
@@ -213,24 +218,24 @@ module _ (H : Header) (beats : ℕ) (z : 0 < (H .delta)) (le : (H .epsilon) ≤ 
       let more = s .behind .order in
       record {
         kept-kept = λ e u.
-            let g = lines H beats z le k at k (c .beat) (leb-true k (c .beat) e) in
+            let g = lines (H .delta) k (c .beat) (leb-true k (c .beat) e) in
             let v = s .front .spans .from in
-            (m, right-in m (omega arith) more, right-in (joined n m) (omega arith) (omega arith));
+            (m, right-in H k at m (omega arith) more, right-in H k at (joined n m) (omega arith) (omega arith));
         kept-dropped = λ e u. let h : k ≤ c .beat = leb-true k (c .beat) e in let i : r .beat < k = leb-false k (r .beat) u in absurd (omega arith);
         dropped-kept = λ e u.
             let h : c .beat < k = leb-false k (c .beat) e in
             let i : k ≤ r .beat = leb-true k (r .beat) u in
             let l : suc (c .beat) * (H .delta) ≡ k * (H .delta) = ap (λ (b : ℕ). b * (H .delta)) (omega arith) in
             let o : at (n .lane) ≡ some r = ap at (sym (s .one-lane) ∙ s .behind .lane-is) ∙ s .front .behind .all-known .0 (omega arith) (s .opens) in (
-              right-in m (omega arith) more,
-              right-across (joined n m) (omega arith) (omega arith) ∙ rw o (ap (λ (v : Note). consIf (standsAlone H r) v []) (note-same (sym (s .one-lane)) (omega arith) refl (sym (s .behind .velocity-is)))),
+              right-in H k at m (omega arith) more,
+              right-across H k at (joined n m) (omega arith) (omega arith) ∙ rw o (ap (λ (v : Note). consIf (standsAlone H r) v []) (note-same (sym (s .one-lane)) (omega arith) refl (sym (s .behind .velocity-is)))),
             );
         dropped-dropped = λ e u.
             let i : r .beat < k = leb-false k (r .beat) u in
-            let h = lines H beats z le k at (suc (suc (c .beat))) k (omega arith) in
+            let h = lines (H .delta) (suc (suc (c .beat))) k (omega arith) in
             elim (decLe (m .end) (k * H .delta)) [
-              | yes j ↦ right-out (joined n m) j ∙ sym (right-out m j)
-              | no j ↦ right-across (joined n m) (omega arith) (omega arith) ∙ ap (λ (l : ℕ). crossStay H k (joined n m) (at l)) (sym (s .one-lane)) ∙ cross-same (joined n m) m (at (m .lane)) (sym (s .one-lane)) refl ∙ sym (right-across m (omega arith) (omega arith))
+              | yes j ↦ right-out H k at (joined n m) j ∙ sym (right-out H k at m j)
+              | no j ↦ right-across H k at (joined n m) (omega arith) (omega arith) ∙ ap (λ (l : ℕ). crossStay H k (joined n m) (at l)) (sym (s .one-lane)) ∙ cross-same H k at (joined n m) m (at (m .lane)) (sym (s .one-lane)) refl ∙ sym (right-across H k at m (omega arith) (omega arith))
             ];
       }
 

@@ -3,12 +3,12 @@
 use mathlib.Core.Bool.{Bool, _&&_, _||_, cond, false, true, true≢false}
 use mathlib.Core.List.{List, [], _++_, _∷_}
 use mathlib.Core.Option.{Option, none, some}
-use mathlib.Core.Path.{_∙_, _≡_, ap, refl, sym}
+use mathlib.Core.Path.{_∙_, _≡_, refl}
 use Prim.Native.Nat.{_*_, _-_, _<_, _≤_, ℕ}
 use native.Mathlib.Decide.{ℕ-discrete}
 use native.Mathlib.Omega.{arith}
 use lib.Dec.{eqb, leb, ltb}
-use borrow.Author.Tests.{eq-eqb, eqb-true, le-leb, le-ltb, lt-leb, lt-ltb, ltb-false, ltb-true, ne-eqb}
+use borrow.Author.Tests.{eq-eqb, eqb-true, le-leb, le-ltb, leb-false, leb-true, lt-leb, lt-ltb, ltb-false, ltb-true, ne-eqb}
 use Rattle.model.specs.Binding.{opening, standsAlone}
 use Rattle.model.specs.Lists.{consIf, gather}
 use Rattle.model.specs.declared.Cell.{Cell}
@@ -39,19 +39,29 @@ module _ (line : ℕ) (before behind : Note → List Note) (across : Note → Op
   unfolding cutBy
   by-across h i = rw (lt-leb (n .end) line h, lt-leb line (n .start) i)
 
+  -- what holds of each part in the three cases
+  pub by-all : (P : Note → Type 0) → (n .end ≤ line → All P (before n)) → (line < n .end → line ≤ n .start → All P (behind n))
+      → (line < n .end → n .start < line → (o : Option Cell) → All P (across n o)) → All P (cutBy line before behind across at n)
+  unfolding cutBy
+  by-all P f g h = go (leb (n .end) line) refl (leb line (n .start)) refl
+    where
+      go : (t : Bool) → leb (n .end) line ≡ t → (u : Bool) → leb line (n .start) ≡ u
+          → All P (cond t (before n) (cond u (behind n) (across n (at (n .lane)))))
+      go true e u i = f (leb-true (n .end) line e)
+      go false e true i = g (leb-false (n .end) line e) (leb-true line (n .start) i)
+      go false e false i = h (leb-false (n .end) line e) (leb-false line (n .start) i) (at (n .lane))
+
 -- The note s ticks earlier.
 abbrev pub noteBack : ℕ → Note → Note
 noteBack s n = record { lane = n .lane; start = n .start - s; end = n .end - s; velocity = n .velocity }
 
 -- What the left half has of a note that crosses line k: all up to the line, if its lane's closing cell there stands alone.
 unfoldable pub crossLeft : Header → ℕ → Note → Option Cell → List Note
-unfolding standsAlone
 crossLeft H k n none = []
 crossLeft H k n (some c) = consIf (standsAlone H c) (record { lane = n .lane; start = n .start; end = k * H .delta; velocity = n .velocity }) []
 
 -- What the right half has of it: all from the line on, if its lane's opening cell there stands alone, with that cell's velocity.
 unfoldable pub crossRight : Header → ℕ → Note → Option Cell → List Note
-unfolding standsAlone
 crossRight H k n none = []
 crossRight H k n (some c) = consIf (standsAlone H c) (record { lane = n .lane; start = 0; end = n .end - k * H .delta; velocity = c .velocity }) []
 
@@ -93,7 +103,8 @@ cutRight H k cells = rightBy H k (λ l. findCell l k 0 cells)
 -- ---- one pass
 
 -- The parts of notes in order of lanes: only a note across the line looks at cells, from beat b of its lane on, and those behind it look at no earlier cell.
-unfoldable pub cutFrom : ℕ → (Note → List Note) → (Note → List Note) → (Note → Option Cell → List Note) → (List Cell → Option Cell) → ℕ → List Note → List Cell → List Note
+unfoldable pub cutFrom : ℕ → (Note → List Note) → (Note → List Note) → (Note → Option Cell → List Note) → (List Cell → Option Cell) → ℕ → List Note
+    → List Cell → List Note
 unfolding skip
 cutFrom line before behind across pick b [] cs = []
 cutFrom line before behind across pick b (n ∷ ns) cs =
@@ -109,12 +120,29 @@ unfoldable pub cutRightFrom : Header → ℕ → List Note → List Cell → Lis
 unfolding cutFrom crossRight firstCell
 cutRightFrom H k = cutFrom (k * H .delta) (λ n. []) (λ n. noteBack (k * H .delta) n ∷ []) (crossRight H k) firstCell k
 
+-- their steps, written out
+module _ (H : Header) (k : ℕ) (n : Note) (ns : List Note) (cs : List Cell) where
+  pub left-step : cutLeftFrom H k (n ∷ ns) cs
+      ≡ cond (leb (n .end) (k * H .delta)) (n ∷ cutLeftFrom H k ns cs)
+      (cond (leb (k * H .delta) (n .start)) (cutLeftFrom H k ns cs)
+      (let ds = skip (n .lane) (k - 1) cs in crossLeft H k n (closingCell ds) ++ cutLeftFrom H k ns ds))
+  unfolding cutLeftFrom
+  left-step = refl
+
+  pub right-step : cutRightFrom H k (n ∷ ns) cs
+      ≡ cond (leb (n .end) (k * H .delta)) (cutRightFrom H k ns cs)
+      (cond (leb (k * H .delta) (n .start)) (noteBack (k * H .delta) n ∷ cutRightFrom H k ns cs)
+      (let ds = skip (n .lane) k cs in crossRight H k n (firstCell ds) ++ cutRightFrom H k ns ds))
+  unfolding cutRightFrom
+  right-step = refl
+
 -- what lies before a beat of a lane lies before that beat of a later lane
 earlier-more : (l m b : ℕ) (c : Cell) → l ≤ m → earlier l b c ≡ true → earlier m b c ≡ true
 unfolding earlier
 earlier-more l m b c h e = go (ltb (c .lane) l) refl e
   where
-    go : (t : Bool) → ltb (c .lane) l ≡ t → t || eqb (c .lane) l && ltb (c .beat) b ≡ true → ltb (c .lane) m || eqb (c .lane) m && ltb (c .beat) b ≡ true
+    go : (t : Bool) → ltb (c .lane) l ≡ t → t || eqb (c .lane) l && ltb (c .beat) b ≡ true
+        → ltb (c .lane) m || eqb (c .lane) m && ltb (c .beat) b ≡ true
     go true p q = let x : c .lane < l = ltb-true (c .lane) l p in rw (lt-ltb (c .lane) m (omega arith))
     go false p q =
         let x : c .lane ≡ l = eqb-true (c .lane) l (and-left (eqb (c .lane) l) (ltb (c .beat) b) q) in
@@ -146,7 +174,8 @@ module _ (line : ℕ) (before behind : Note → List Note) (across : Note → Op
   sees-later l cs (n ∷ ns) a = rw (skip-skip l (n .lane) b cs (a .0), sees-later l cs ns (a .1))
 
   -- the one pass leaves what is left of each note
-  pub from-gather : (ns : List Note) (cs : List Cell) → Pairs (λ n m. n .lane ≤ m .lane) ns → cutFrom line before behind across pick b ns cs ≡ gather (cutBy line before behind across (sees cs)) ns
+  pub from-gather : (ns : List Note) (cs : List Cell) → Pairs (λ n m. n .lane ≤ m .lane) ns
+      → cutFrom line before behind across pick b ns cs ≡ gather (cutBy line before behind across (sees cs)) ns
   unfolding cutFrom cutBy
   from-gather [] cs s = refl
   from-gather (n ∷ ns) cs s =
@@ -176,7 +205,8 @@ module _ (δ : ℕ) where
   is-behind c d (beat-up a b) = record { lane-from = omega arith; beat-from = λ e. omega arith; sides = λ e f. absurd (omega arith) }
   is-behind c d (side-up a b o p i) = record { lane-from = omega arith; beat-from = λ e. omega arith; sides = λ e f. (o, p) }
 
-  find-other : (c d : Cell) (cs : List Cell) → Behind c d → findCell (d .lane) (d .beat) (d .side) (c ∷ cs) ≡ findCell (d .lane) (d .beat) (d .side) cs
+  find-other : (c d : Cell) (cs : List Cell) → Behind c d
+      → findCell (d .lane) (d .beat) (d .side) (c ∷ cs) ≡ findCell (d .lane) (d .beat) (d .side) cs
   unfolding findCell
   find-other c d cs a = go (eqb (c .lane) (d .lane)) refl (eqb (c .beat) (d .beat)) refl (eqb (c .side) (d .side)) refl
     where
@@ -231,7 +261,8 @@ module _ (δ : ℕ) where
   unfolding earlier
   same-beat c d a e = go (ltb (c .lane) (d .lane)) refl e
     where
-      go : (t : Bool) → ltb (c .lane) (d .lane) ≡ t → t || eqb (c .lane) (d .lane) && ltb (c .beat) (d .beat) ≡ false → (c .lane ≡ d .lane) × (c .beat ≡ d .beat)
+      go : (t : Bool) → ltb (c .lane) (d .lane) ≡ t → t || eqb (c .lane) (d .lane) && ltb (c .beat) (d .beat) ≡ false
+          → (c .lane ≡ d .lane) × (c .beat ≡ d .beat)
       go true p q = absurd (true≢false q)
       go false p q =
           let x : d .lane ≤ c .lane = ltb-false (c .lane) (d .lane) p in

@@ -9,7 +9,7 @@ use native.Mathlib.Nat.{add-mul, mul-le-mul-right}
 use native.Mathlib.Omega.{arith}
 use lib.Dec.{leb, ltb}
 use borrow.Author.Tests.{leb-false, leb-true, ltb-false, ltb-true}
-use Rattle.model.specs.Binding.{endOf, goOn, lineNotes, opening, standsAlone, startOf}
+use Rattle.model.specs.Binding.{endOf, lineNotes, opening, standsAlone, startOf}
 use Rattle.model.specs.Lists.{consIf, gather, keep}
 use Rattle.model.specs.Pieces.{firstBeat, inside}
 use Rattle.model.specs.Takes.{Take, cellTo, leftOf, merge, noteTo, notesOf, rightOf, splitLeft, splitRight}
@@ -21,13 +21,13 @@ use Rattle.laws.specs.Counting.{link-back}
 use Rattle.laws.specs.CutLines.{Cells, put, walk-keep}
 use Rattle.laws.specs.CutMerge.{Part, gather-merge}
 use Rattle.laws.specs.CutSides.{crossStay, left-cuts, right-cuts, stayBy}
-use Rattle.laws.specs.Cutting.{Found, by-before, by-behind, closing-found, closingCell, crossLeft, crossRight, cutBy, cutFrom, cutLeft, cutLeftFrom, cutRight, cutRightFrom, find-found, findCell, firstCell, from-gather, leftBy, noteBack, opening-found, rightBy}
+use Rattle.laws.specs.Cutting.{Found, by-all, by-before, by-behind, closing-found, closingCell, crossLeft, crossRight, cutBy, cutLeft, cutLeftFrom, cutRight, cutRightFrom, find-found, findCell, firstCell, from-gather, leftBy, noteBack, opening-found, rightBy}
 use Rattle.laws.specs.Joining.{back-note}
-use Rattle.laws.specs.Lists.{gather-same, map-gather}
+use Rattle.laws.specs.Lists.{gather-same, map-gather, map-keep}
 use Rattle.laws.specs.Moving.{solid-left, solid-right}
 use Rattle.laws.specs.Notes.{Fair, Follow, Long, above, later, note-same, ok-pairs}
 use Rattle.laws.specs.Order.{aways, line-fair, line-pairs, solid-notes}
-use Rattle.laws.specs.Relations.{All, Pairs, all-imp, all-kept, pairs-imp}
+use Rattle.laws.specs.Relations.{All, Pairs, all-consIf, all-imp, all-kept, pairs-imp}
 use Rattle.laws.specs.Rules.{moved-alone, own}
 use Rattle.laws.specs.Solid.{Solid}
 use Rattle.laws.specs.Sweep.{skip}
@@ -74,43 +74,37 @@ module _ (H : Header) (k : ℕ) where
 
 module _ (H : Header) (k : ℕ) (at : ℕ → Option Cell) where
   left-parts : (n : Note) → Long n → All (Part 0 n) (leftBy H k at n)
-  unfolding leftBy cutBy crossLeft
-  left-parts n v = go (leb (n .end) (k * H .delta)) refl (leb (k * H .delta) (n .start)) refl (at (n .lane))
+  unfolding leftBy
+  left-parts n v =
+      by-all (k * H .delta) (λ n. n ∷ []) (λ n. []) (crossLeft H k) at n (Part 0 n)
+      (λ h. (record { lane-is = refl; start-is = omega arith; end-upto = omega arith; order = v }, tt)) (λ h i. tt) go
     where
-      one : (a : Bool) → n .start < k * H .delta → k * H .delta < n .end → All (Part 0 n) (consIf a (record { lane = n .lane; start = n .start; end = k * H .delta; velocity = n .velocity }) [])
-      one true h i = (record { lane-is = refl; start-is = omega arith; end-upto = omega arith; order = h }, tt)
-      one false h i = tt
-
-      go : (t : Bool) → leb (n .end) (k * H .delta) ≡ t → (u : Bool) → leb (k * H .delta) (n .start) ≡ u → (o : Option Cell) → All (Part 0 n) (cond t (n ∷ []) (cond u [] (crossLeft H k n o)))
-      go true e u f o = (record { lane-is = refl; start-is = omega arith; end-upto = omega arith; order = v }, tt)
-      go false e true f o = tt
-      go false e false f none = tt
-      go false e false f (some c) = one (standsAlone H c) (leb-false (k * H .delta) (n .start) f) (leb-false (n .end) (k * H .delta) e)
+      go : k * H .delta < n .end → n .start < k * H .delta → (o : Option Cell) → All (Part 0 n) (crossLeft H k n o)
+      go h i none = tt
+      go h i (some c) = all-consIf (Part 0 n) (standsAlone H c) _ [] (λ e. record { lane-is = refl; start-is = omega arith; end-upto = omega arith; order = i }) tt
 
   right-parts : (n : Note) → Long n → All (Part (k * H .delta) n) (rightBy H k at n)
-  unfolding rightBy cutBy crossRight
-  right-parts n v = go (leb (n .end) (k * H .delta)) refl (leb (k * H .delta) (n .start)) refl (at (n .lane))
+  unfolding rightBy
+  right-parts n v =
+      by-all (k * H .delta) (λ n. []) (λ n. back H k n ∷ []) (crossRight H k) at n (Part (k * H .delta) n)
+      (λ h. tt) (λ h i. (record { lane-is = refl; start-is = refl; end-upto = omega arith; order = omega arith }, tt)) go
     where
-      one : (a : Bool) (w : ℕ) → n .start < k * H .delta → k * H .delta < n .end → All (Part (k * H .delta) n) (consIf a (record { lane = n .lane; start = 0; end = n .end - k * H .delta; velocity = w }) [])
-      one true w h i = (record { lane-is = refl; start-is = omega arith; end-upto = omega arith; order = omega arith }, tt)
-      one false w h i = tt
-
-      go : (t : Bool) → leb (n .end) (k * H .delta) ≡ t → (u : Bool) → leb (k * H .delta) (n .start) ≡ u → (o : Option Cell) → All (Part (k * H .delta) n) (cond t [] (cond u (back H k n ∷ []) (crossRight H k n o)))
-      go true e u f o = tt
-      go false e true f o = let i : k * H .delta ≤ n .start = leb-true (k * H .delta) (n .start) f in (record { lane-is = refl; start-is = refl; end-upto = omega arith; order = omega arith }, tt)
-      go false e false f none = tt
-      go false e false f (some c) = one (standsAlone H c) (c .velocity) (leb-false (k * H .delta) (n .start) f) (leb-false (n .end) (k * H .delta) e)
+      go : k * H .delta < n .end → n .start < k * H .delta → (o : Option Cell) → All (Part (k * H .delta) n) (crossRight H k n o)
+      go h i none = tt
+      go h i (some c) = all-consIf (Part (k * H .delta) n) (standsAlone H c) _ [] (λ e. record { lane-is = refl; start-is = omega arith; end-upto = omega arith; order = omega arith }) tt
 
   -- the right half's part is moved last
   stay-back : (n : Note) → map (back H k) (stayBy H k at n) ≡ rightBy H k at n
   unfolding rightBy stayBy cutBy crossRight crossStay
   stay-back n = go (leb (n .end) (k * H .delta)) (leb (k * H .delta) (n .start)) (at (n .lane))
     where
-      one : (a : Bool) (w : ℕ) → map (back H k) (consIf a (record { lane = n .lane; start = k * H .delta; end = n .end; velocity = w }) []) ≡ consIf a (record { lane = n .lane; start = 0; end = n .end - k * H .delta; velocity = w }) []
+      one : (a : Bool) (w : ℕ)
+          → map (back H k) (consIf a (record { lane = n .lane; start = k * H .delta; end = n .end; velocity = w }) []) ≡ consIf a (record { lane = n .lane; start = 0; end = n .end - k * H .delta; velocity = w }) []
       one true w = ap (λ (m : Note). m ∷ []) (note-same refl (omega arith) refl refl)
       one false w = refl
 
-      go : (t u : Bool) (o : Option Cell) → map (back H k) (cond t [] (cond u (n ∷ []) (crossStay H k n o))) ≡ cond t [] (cond u (back H k n ∷ []) (crossRight H k n o))
+      go : (t u : Bool) (o : Option Cell)
+          → map (back H k) (cond t [] (cond u (n ∷ []) (crossStay H k n o))) ≡ cond t [] (cond u (back H k n ∷ []) (crossRight H k n o))
       go true u o = refl
       go false true o = refl
       go false false none = refl
@@ -130,7 +124,8 @@ module _ (H : Header) (z : 0 < (H .delta)) (le : (H .epsilon) ≤ (H .delta)) (t
       up n m (later a b) = omega arith
 
   -- whatever leaves parts of notes may be done before the notes are merged
-  merged : (m : ℕ) (f : Note → List Note) → ((n : Note) → Long n → All (Part m n) (f n)) → merge (gather f (t .inner)) (gather f (lineNotes H (t .cells))) ≡ gather f (notesOf H t)
+  merged : (m : ℕ) (f : Note → List Note) → ((n : Note) → Long n → All (Part m n) (f n))
+      → merge (gather f (t .inner)) (gather f (lineNotes H (t .cells))) ≡ gather f (notesOf H t)
   unfolding notesOf
   merged m f p =
       sym (gather-merge m f p (t .inner) (lineNotes H (t .cells)) (all-imp (Fair (H .delta) (t .beats)) Long (t .inner) (λ n f. f .order) (s .notes-fair)) (all-imp (Fair (H .delta) (t .beats)) Long (lineNotes H (t .cells)) (λ n f. f .order) (line-fair H z le t s))
@@ -144,19 +139,22 @@ module _ (H : Header) (z : 0 < (H .delta)) (le : (H .epsilon) ≤ (H .delta)) (t
   inner-behind n i h = let e = inside-low (H .delta) n i in let m : k * H .delta ≤ firstBeat (H .delta) n * H .delta = mul-le-mul-right (H .delta) h in omega arith
 
   module _ (at : ℕ → Option Cell) where
-    left-inner : (ns : List Note) → All (λ n. inside (H .delta) n ≡ true) ns → All Long ns → leftOf (firstBeat (H .delta)) k ns ≡ gather (leftBy H k at) ns
+    left-inner : (ns : List Note) → All (λ n. inside (H .delta) n ≡ true) ns → All Long ns
+        → leftOf (firstBeat (H .delta)) k ns ≡ gather (leftBy H k at) ns
     unfolding leftOf leftBy
     left-inner [] i v = refl
     left-inner (n ∷ ns) i v = go (ltb (firstBeat (H .delta) n) k) refl (left-inner ns (i .1) (v .1))
       where
-        go : (b : Bool) → ltb (firstBeat (H .delta) n) k ≡ b → leftOf (firstBeat (H .delta)) k ns ≡ gather (leftBy H k at) ns → consIf b n (leftOf (firstBeat (H .delta)) k ns) ≡ leftBy H k at n ++ gather (leftBy H k at) ns
+        go : (b : Bool) → ltb (firstBeat (H .delta) n) k ≡ b → leftOf (firstBeat (H .delta)) k ns ≡ gather (leftBy H k at) ns
+            → consIf b n (leftOf (firstBeat (H .delta)) k ns) ≡ leftBy H k at n ++ gather (leftBy H k at) ns
         go true e ih = rw (by-before (k * H .delta) (λ n. n ∷ []) (λ n. []) (crossLeft H k) at n (inner-before n (i .0) (ltb-true (firstBeat (H .delta) n) k e))) (ap (_∷_ n) ih)
         go false e ih =
             let h = inner-behind n (i .0) (ltb-false (firstBeat (H .delta) n) k e) in
             let w : n .start < n .end = v .0 in
             rw (by-behind (k * H .delta) (λ n. n ∷ []) (λ n. []) (crossLeft H k) at n (omega arith) h) ih
 
-    right-inner : (ns : List Note) → All (λ n. inside (H .delta) n ≡ true) ns → All Long ns → rightOf (firstBeat (H .delta)) (noteTo (H .delta)) k ns ≡ gather (rightBy H k at) ns
+    right-inner : (ns : List Note) → All (λ n. inside (H .delta) n ≡ true) ns → All Long ns
+        → rightOf (firstBeat (H .delta)) (noteTo (H .delta)) k ns ≡ gather (rightBy H k at) ns
     unfolding rightOf rightBy
     right-inner [] i v = refl
     right-inner (n ∷ ns) i v = go (leb k (firstBeat (H .delta) n)) refl (right-inner ns (i .1) (v .1))
@@ -179,7 +177,8 @@ module _ (H : Header) (z : 0 < (H .delta)) (le : (H .epsilon) ≤ (H .delta)) (t
     line-is : lineNotes H (t .cells) ≡ walk H false (t .cells)
     line-is = line-walk H le (s .cells-pieced)
 
-    left-lines : All (Found at (k - 1) 1) (t .cells) → lineNotes H ((splitLeft (H .delta) k t) .cells) ≡ gather (leftBy H k at) (lineNotes H (t .cells))
+    left-lines : All (Found at (k - 1) 1) (t .cells)
+        → lineNotes H ((splitLeft (H .delta) k t) .cells) ≡ gather (leftBy H k at) (lineNotes H (t .cells))
     unfolding splitLeft leftOf
     left-lines a =
         line-walk H le ((solid-left (H .delta) z t s k) .cells-pieced)
@@ -236,3 +235,14 @@ module _ (H : Header) (z : 0 < (H .delta)) (le : (H .epsilon) ≤ (H .delta)) (t
 
   pub pass-right : cutRightFrom H k (notesOf H t) (t .cells) ≡ gather (cutRight H k (t .cells)) (notesOf H t)
   pass-right = sym right-pass ∙ right-notes
+
+-- ---- their cells
+
+module _ (δ k : ℕ) (t : Take) where
+  pub left-half-cells : (splitLeft δ k t) .cells ≡ keep (λ c. ltb (c .beat) k) (t .cells)
+  unfolding splitLeft leftOf
+  left-half-cells = refl
+
+  pub right-half-cells : (splitRight δ k t) .cells ≡ gather (λ c. consIf (leb k (c .beat)) (cellTo (c .beat - k) c) []) (t .cells)
+  unfolding splitRight rightOf
+  right-half-cells = map-keep (λ c. leb k (c .beat)) (λ c. cellTo (c .beat - k) c) (t .cells)

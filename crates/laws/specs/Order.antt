@@ -181,7 +181,8 @@ module _ (H : Header) (beats : ℕ) (z : 0 < (H .delta)) where
       (outs-fair on-it cs (walk H on-it cs) ih) (outs-pairs on-it cs (walk H on-it cs) ih) (λ e. rw (← (q .lane-same)) (bound-begins d cs (walk H on-it cs) ih e)))
 
   -- the walk's notes are in range
-  pub walk-fair : {cs : List Cell} → Pieced (H .delta) cs → All (Fine (H .delta) beats) cs → Pairs (Apart (H .delta)) cs → (held : Bool) → All (Fair (H .delta) beats) (walk H held cs)
+  pub walk-fair : {cs : List Cell} → Pieced (H .delta) cs → All (Fine (H .delta) beats) cs → Pairs (Apart (H .delta)) cs → (held : Bool)
+      → All (Fair (H .delta) beats) (walk H held cs)
   walk-fair {cs} p k a held = outs-fair held cs (walk H held cs) (outs p k a held)
 
   -- ---- an inner note lies away from the walk's notes
