@@ -144,14 +144,26 @@ module _ (H : Header) (beats : ℕ) (z : 0 < (H .delta)) (le : (H .epsilon) ≤ 
       made : (m : Note) (ms : List Note) → walk H true (c ∷ cs) ≡ m ∷ ms → walk H false (c ∷ cs) ≡ consIf (standsAlone H c) m ms → m .lane ≡ n .lane
           → m .start ≡ n .start → m .velocity ≡ n .velocity → SomeOpened c cs
       made m ms t u l s v =
-          let a = walk-fair H beats z (k .in-pieces) (k .all-fine) (k .all-apart) true in
-          (m, ms, record { held = t; unheld = u; lane-is = l ∙ f .spans .is-lane; start-is = s ∙ f .spans .is-start; velocity-is = v ∙ f .velocity-is; order = (rw t at a) .0 .order })
+          let a = walk-fair H beats z (k .in-pieces) (k .all-fine) (k .all-apart) true in (
+            m,
+            ms,
+            record {
+              held = t;
+              unheld = u;
+              lane-is = l ∙ f .spans .is-lane;
+              start-is = s ∙ f .spans .is-start;
+              velocity-is = v ∙ f .velocity-is;
+              order = (rw t at a) .0 .order;
+            },
+          )
 
       go : (b : Bool) → boundNext H x rest ≡ b → (ns : List Note) → walk H true (c ∷ cs) ≡ put n b (standsAlone H x || true) ns
           → walk H false (c ∷ cs) ≡ put n b (standsAlone H x || false) ns → SomeOpened c cs
       go true e [] t u = made n [] t (u ∙ rw (sym (f .alone-last) ∙ f .steady o e)) refl refl refl
       go true e (h ∷ hs) t u = made (joined n h) hs t (u ∙ rw (sym (f .alone-last) ∙ f .steady o e)) refl refl refl
-      go false e ns t u = made n ns (t ∙ rw (or-right (standsAlone H x) {b = true} refl)) (u ∙ rw (or-false (standsAlone H x), f .alone-last) (cons-cond (standsAlone H c) ns)) refl refl refl
+      go false e ns t u =
+          made n ns (t ∙ rw (or-right (standsAlone H x) {b = true} refl))
+          (u ∙ rw (or-false (standsAlone H x), f .alone-last) (cons-cond (standsAlone H c) ns)) refl refl refl
         where
           cons-cond : (a : Bool) (ns : List Note) → cond a (n ∷ ns) ns ≡ consIf a n ns
           cons-cond true ns = refl

@@ -23,8 +23,8 @@ part-before : (s : ℕ) (x y a b : Note) → Part s x a → Part s y b → Follo
 part-before s x y a b p q f = before a b (p .order) (go f)
   where
     go : Follow x y → Follow a b
-    go (above u) = let l = p .lane-is in let m = q .lane-is in above (omega arith)
-    go (later u v) = let l = p .lane-is in let m = q .lane-is in let e = p .end-upto in let t = q .start-is in later (omega arith) (omega arith)
+    go (above u) = above (omega arith)
+    go (later u v) = later (omega arith) (omega arith)
 
 -- ---- several notes in front
 
@@ -45,7 +45,9 @@ module _ (s : ℕ) (f : Note → List Note) (parts : (n : Note) → Long n → A
     where
       go : (a : Note) → Part s x a → (ys : List Note) → All Long ys → All (Follow x) ys → All (Before a) (gather f ys)
       go a u [] w p = tt
-      go a u (y ∷ ys) w p = all-append (Before a) (f y) (gather f ys) (all-imp (Part s y) (Before a) (f y) (λ b r. part-before s x y a b u r (p .0)) (parts y (w .0))) (go a u ys (w .1) (p .1))
+      go a u (y ∷ ys) w p =
+          all-append (Before a) (f y) (gather f ys)
+          (all-imp (Part s y) (Before a) (f y) (λ b r. part-before s x y a b u r (p .0)) (parts y (w .0))) (go a u ys (w .1) (p .1))
 
   -- Two lists of notes with ticks, each in order, and clear of each other.
   record Sides (xs ys : List Note) : Type 0 where
@@ -59,7 +61,13 @@ module _ (s : ℕ) (f : Note → List Note) (parts : (n : Note) → Long n → A
   Merges xs ys = gather f (merge xs ys) ≡ merge (gather f xs) (gather f ys)
 
   fewer-first : (x : Note) (xs ys : List Note) → Sides (x ∷ xs) ys → Sides xs ys
-  fewer-first x xs ys d = record { long-first = d .long-first .1; long-second = d .long-second; first-apart = d .first-apart .1; second-apart = d .second-apart; away = d .away .1 }
+  fewer-first x xs ys d = record {
+    long-first = d .long-first .1;
+    long-second = d .long-second;
+    first-apart = d .first-apart .1;
+    second-apart = d .second-apart;
+    away = d .away .1;
+  }
 
   fewer-second : (y : Note) (xs ys : List Note) → Sides xs (y ∷ ys) → Sides xs ys
   fewer-second y xs ys d = record {
@@ -87,11 +95,15 @@ module _ (s : ℕ) (f : Note → List Note) (parts : (n : Note) → Long n → A
       go true e ih =
           let g : Follow x y = first-of x y v w (d .away .0 .0) e in
           let gs : All (Follow x) (y ∷ ys) = (g, all-imp (Follow y) (Follow x) ys (λ m k. follow-trans x y m w g k) (d .second-apart .0)) in
-          rw (e, weave) (ap (_++_ (f x)) (h (y ∷ ys) (fewer-first x xs (y ∷ ys) d)) ∙ sym (merge-firsts (f x) (gather f xs) (gather f (y ∷ ys)) (parts-before x (y ∷ ys) v (d .long-second) gs)))
+          rw (e, weave)
+          (ap (_++_ (f x)) (h (y ∷ ys) (fewer-first x xs (y ∷ ys) d))
+          ∙ sym (merge-firsts (f x) (gather f xs) (gather f (y ∷ ys)) (parts-before x (y ∷ ys) v (d .long-second) gs)))
       go false e ih =
           let g : Follow y x = second-of x y v w (d .away .0 .0) e in
           let gs : All (Follow y) (x ∷ xs) = (g, all-imp (Follow x) (Follow y) xs (λ m k. follow-trans y x m v g k) (d .first-apart .0)) in
-          rw (e, weave) (ap (_++_ (f y)) ih ∙ sym (merge-seconds (f y) (gather f (x ∷ xs)) (gather f ys) (parts-before y (x ∷ xs) w (d .long-first) gs)))
+          rw (e, weave)
+          (ap (_++_ (f y)) ih
+          ∙ sym (merge-seconds (f y) (gather f (x ∷ xs)) (gather f ys) (parts-before y (x ∷ xs) w (d .long-first) gs)))
 
   sides-merge : (xs ys : List Note) → Sides xs ys → Merges xs ys
   unfolding merge

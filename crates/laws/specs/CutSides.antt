@@ -27,11 +27,11 @@ lines : (δ a b : ℕ) → a ≤ b → a * δ ≤ b * δ
 lines δ a b h = mul-le-mul-right δ h
 
 module _ (H : Header) (k : ℕ) (at : ℕ → Option Cell) where
-  left-in : (n : Note) → n .end ≤ k * H .delta → leftBy H k at n ≡ n ∷ []
+  pub left-in : (n : Note) → n .end ≤ k * H .delta → leftBy H k at n ≡ n ∷ []
   unfolding leftBy
   left-in n h = by-before (k * H .delta) (λ n. n ∷ []) (λ n. []) (crossLeft H k) at n h
 
-  left-out : (n : Note) → k * H .delta ≤ n .start → n .start < n .end → leftBy H k at n ≡ []
+  pub left-out : (n : Note) → k * H .delta ≤ n .start → n .start < n .end → leftBy H k at n ≡ []
   unfolding leftBy
   left-out n h i = by-behind (k * H .delta) (λ n. n ∷ []) (λ n. []) (crossLeft H k) at n (omega arith) h
 
@@ -77,7 +77,6 @@ module _ (H : Header) (beats : ℕ) (z : 0 < (H .delta)) (le : (H .epsilon) ≤ 
   ready-on c x cs (r ∷ rs) n f ih o b e =
       let w = seam H beats z le (λ b. ltb b k) (Found at (k - 1) 1) c x cs n r rs f e in
       let s = w .2 in
-      let next = s .next-beat in
       rw (s .behind .held) (elim (decLe (suc (r .beat)) k) [
         | yes h ↦ longer (w .0) (s .one-lane) (rw (s .behind .held) at (ih (eq-eqb (r .side) 0 (s .opens)) h))
         | no h ↦ goes x (left-found s (omega arith)) (f .steady o e)
@@ -95,18 +94,14 @@ module _ (H : Header) (beats : ℕ) (z : 0 < (H .delta)) (le : (H .epsilon) ≤ 
         where
           go : (t : Bool) → boundNext H x rest ≡ t → FirstReady (put n t true (walk H t rest))
           go true e = ready-on c x cs rest n f ih o b e
-          go false e = let m = lines (H .delta) (suc (c .beat)) k b in let u = f .spans .upto in ends (omega arith)
+          go false e = let m = lines (H .delta) (suc (c .beat)) k b in ends (omega arith)
 
   left-end : {c x : Cell} {cs rest : List Cell} {n : Note} → LeftFront c x cs rest n
       → AtEnd H beats z le (λ b. ltb b k) (Found at (k - 1) 1) (leftBy H k at) c n
-  left-end {c} {x} {cs} {rest} {n} f =
-      let u = f .spans .upto in
-      let v = f .spans .from in
-      let o = f .spans .is-fair .order in
-      record {
-        kept-end = λ e. let h : c .beat < k = ltb-true (c .beat) k e in let m = lines (H .delta) (suc (c .beat)) k h in left-in H k at n (omega arith);
-        dropped-end = λ e. let m = lines (H .delta) k (c .beat) (ltb-false (c .beat) k e) in left-out H k at n (omega arith) o;
-      }
+  left-end {c} {x} {cs} {rest} {n} f = record {
+    kept-end = λ e. let h : c .beat < k = ltb-true (c .beat) k e in let m = lines (H .delta) (suc (c .beat)) k h in left-in H k at n (omega arith);
+    dropped-end = λ e. let m = lines (H .delta) k (c .beat) (ltb-false (c .beat) k e) in left-out H k at n (omega arith) (f .spans .is-fair .order);
+  }
 
   left-both : {c x : Cell} {cs : List Cell} {n : Note} {r : Cell} {rs : List Cell} {m : Note} {ms : List Note} → LeftSeam c x cs n r rs m ms
       → ltb (c .beat) k ≡ true → ltb (r .beat) k ≡ true
@@ -122,22 +117,14 @@ module _ (H : Header) (beats : ℕ) (z : 0 < (H .delta)) (le : (H .epsilon) ≤ 
       cross : (m .end ≤ k * H .delta → ⊥) → Ready m → (l : Note) × (leftBy H k at m ≡ l ∷ []) × (leftBy H k at (joined n m) ≡ joined n l ∷ [])
       cross h (ends i) = absurd (h i)
       cross h (goes y i a) =
-          let next = s .next-beat in
-          let line = s .on-line in
-          let tick = s .one-tick in
-          let order = s .front .spans .is-fair .order in
           let b : r .beat < k = ltb-true (r .beat) k u in
           let t = lines (H .delta) (suc (suc (c .beat))) k (omega arith) in
-          (cut, left-across H k at m y (omega arith) (omega arith) i ∙ rw a, left-across H k at (joined n m) y (omega arith) (omega arith) (ap at (sym (s .one-lane)) ∙ i) ∙ rw a)
+          let j : at (n .lane) ≡ some y = ap at (sym (s .one-lane)) ∙ i in
+          (cut, left-across H k at m y (omega arith) (omega arith) i ∙ rw a, left-across H k at (joined n m) y (omega arith) (omega arith) j ∙ rw a)
 
   left-seam : {c x : Cell} {cs : List Cell} {n : Note} {r : Cell} {rs : List Cell} {m : Note} {ms : List Note} → LeftSeam c x cs n r rs m ms
       → AtSeam H beats z le (λ b. ltb b k) (Found at (k - 1) 1) (leftBy H k at) c x r n m
   left-seam {c} {x} {cs} {n} {r} {rs} {m} {ms} s =
-      let next = s .next-beat in
-      let line = s .on-line in
-      let tick = s .one-tick in
-      let order = s .front .spans .is-fair .order in
-      let more = s .behind .order in
       record {
         kept-kept = λ e u. left-both s e u;
         kept-dropped = λ e u.
@@ -145,15 +132,15 @@ module _ (H : Header) (beats : ℕ) (z : 0 < (H .delta)) (le : (H .epsilon) ≤ 
             let i : k ≤ r .beat = ltb-false (r .beat) k u in
             let j : suc (c .beat) ≡ k = omega arith in
             let l : suc (c .beat) * (H .delta) ≡ k * (H .delta) = ap (λ (b : ℕ). b * (H .delta)) j in (
-              left-out H k at m (omega arith) more,
-              left-across H k at (joined n m) x (omega arith) (omega arith) (left-found s j) ∙ ap (λ (v : Note). consIf (standsAlone H x) v []) (note-same refl refl (omega arith) refl),
+              left-out H k at m (omega arith) (s .behind .order),
+              left-across H k at (joined n m) x (omega arith) (omega arith) (left-found s j)
+                  ∙ ap (λ (v : Note). consIf (standsAlone H x) v []) (note-same refl refl (omega arith) refl),
             );
         dropped-kept = λ e u. let h : k ≤ c .beat = ltb-false (c .beat) k e in let i : r .beat < k = ltb-true (r .beat) k u in absurd (omega arith);
         dropped-dropped = λ e u.
             let h = lines (H .delta) k (suc (c .beat)) (let h : k ≤ c .beat = ltb-false (c .beat) k e in omega arith) in
             let g = lines (H .delta) k (c .beat) (ltb-false (c .beat) k e) in
-            let v = s .front .spans .from in
-            left-out H k at (joined n m) (omega arith) (omega arith) ∙ sym (left-out H k at m (omega arith) more);
+            left-out H k at (joined n m) (omega arith) (omega arith) ∙ sym (left-out H k at m (omega arith) (s .behind .order));
       }
 
   pub left-cuts : Cuts H beats z le (λ b. ltb b k) (Found at (k - 1) 1) (leftBy H k at)
@@ -184,10 +171,13 @@ module _ (H : Header) (k : ℕ) (at : ℕ → Option Cell) where
   right-across n h i = by-across (k * H .delta) (λ n. []) (λ n. n ∷ []) (crossStay H k) at n i h
 
   -- only the lane and the end count
-  cross-same : (m n : Note) (o : Option Cell) → m .lane ≡ n .lane → m .end ≡ n .end → crossStay H k m o ≡ crossStay H k n o
+  cross-same : (m n : Note) → m .lane ≡ n .lane → m .end ≡ n .end → crossStay H k m (at (m .lane)) ≡ crossStay H k n (at (n .lane))
   unfolding crossStay
-  cross-same m n none l e = refl
-  cross-same m n (some c) l e = ap (λ (v : Note). consIf (standsAlone H c) v []) (note-same l refl e refl)
+  cross-same m n l e = ap (λ (i : ℕ). crossStay H k m (at i)) l ∙ go (at (n .lane))
+    where
+      go : (o : Option Cell) → crossStay H k m o ≡ crossStay H k n o
+      go none = refl
+      go (some c) = ap (λ (v : Note). consIf (standsAlone H c) v []) (note-same l refl e refl)
 
 module _ (H : Header) (beats : ℕ) (z : 0 < (H .delta)) (le : (H .epsilon) ≤ (H .delta)) (k : ℕ) (at : ℕ → Option Cell) where
   abbrev RightFront : Cell → Cell → List Cell → List Cell → Note → Type 0
@@ -199,11 +189,8 @@ module _ (H : Header) (beats : ℕ) (z : 0 < (H .delta)) (le : (H .epsilon) ≤ 
   right-end : {c x : Cell} {cs rest : List Cell} {n : Note} → RightFront c x cs rest n
       → AtEnd H beats z le (λ b. leb k b) (Found at k 0) (stayBy H k at) c n
   right-end {c} {x} {cs} {rest} {n} f =
-      let u = f .spans .upto in
-      let v = f .spans .from in
-      let o = f .spans .is-fair .order in
       record {
-        kept-end = λ e. let m = lines (H .delta) k (c .beat) (leb-true k (c .beat) e) in right-in H k at n (omega arith) o;
+        kept-end = λ e. let m = lines (H .delta) k (c .beat) (leb-true k (c .beat) e) in right-in H k at n (omega arith) (f .spans .is-fair .order);
         dropped-end = λ e. let h : c .beat < k = leb-false k (c .beat) e in let m = lines (H .delta) (suc (c .beat)) k h in right-out H k at n (omega arith);
       }
 
@@ -211,31 +198,28 @@ module _ (H : Header) (beats : ℕ) (z : 0 < (H .delta)) (le : (H .epsilon) ≤ 
       → AtSeam H beats z le (λ b. leb k b) (Found at k 0) (stayBy H k at) c x r n m
   unfolding crossStay
   right-seam {c} {x} {cs} {n} {r} {rs} {m} {ms} s =
-      let next = s .next-beat in
-      let line = s .on-line in
-      let tick = s .one-tick in
-      let order = s .front .spans .is-fair .order in
-      let more = s .behind .order in
       record {
         kept-kept = λ e u.
             let g = lines (H .delta) k (c .beat) (leb-true k (c .beat) e) in
-            let v = s .front .spans .from in
-            (m, right-in H k at m (omega arith) more, right-in H k at (joined n m) (omega arith) (omega arith));
+            (m, right-in H k at m (omega arith) (s .behind .order), right-in H k at (joined n m) (omega arith) (omega arith));
         kept-dropped = λ e u. let h : k ≤ c .beat = leb-true k (c .beat) e in let i : r .beat < k = leb-false k (r .beat) u in absurd (omega arith);
         dropped-kept = λ e u.
             let h : c .beat < k = leb-false k (c .beat) e in
             let i : k ≤ r .beat = leb-true k (r .beat) u in
             let l : suc (c .beat) * (H .delta) ≡ k * (H .delta) = ap (λ (b : ℕ). b * (H .delta)) (omega arith) in
             let o : at (n .lane) ≡ some r = ap at (sym (s .one-lane) ∙ s .behind .lane-is) ∙ s .front .behind .all-known .0 (omega arith) (s .opens) in (
-              right-in H k at m (omega arith) more,
-              right-across H k at (joined n m) (omega arith) (omega arith) ∙ rw o (ap (λ (v : Note). consIf (standsAlone H r) v []) (note-same (sym (s .one-lane)) (omega arith) refl (sym (s .behind .velocity-is)))),
+              right-in H k at m (omega arith) (s .behind .order),
+              right-across H k at (joined n m) (omega arith) (omega arith)
+                  ∙ rw o (ap (λ (v : Note). consIf (standsAlone H r) v []) (note-same (sym (s .one-lane)) (omega arith) refl (sym (s .behind .velocity-is)))),
             );
         dropped-dropped = λ e u.
             let i : r .beat < k = leb-false k (r .beat) u in
             let h = lines (H .delta) (suc (suc (c .beat))) k (omega arith) in
             elim (decLe (m .end) (k * H .delta)) [
               | yes j ↦ right-out H k at (joined n m) j ∙ sym (right-out H k at m j)
-              | no j ↦ right-across H k at (joined n m) (omega arith) (omega arith) ∙ ap (λ (l : ℕ). crossStay H k (joined n m) (at l)) (sym (s .one-lane)) ∙ cross-same H k at (joined n m) m (at (m .lane)) (sym (s .one-lane)) refl ∙ sym (right-across H k at m (omega arith) (omega arith))
+              | no j ↦
+                  right-across H k at (joined n m) (omega arith) (omega arith) ∙ cross-same H k at (joined n m) m (sym (s .one-lane)) refl
+                  ∙ sym (right-across H k at m (omega arith) (omega arith))
             ];
       }
 
