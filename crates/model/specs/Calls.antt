@@ -114,7 +114,8 @@ damaged-numbers = refl
 
 -- A session that is too short, too long, or of fewer than four words is refused by every call.
 pub lengths
-    : map (λ s. number s (layCall 0 0 [])) ([] ∷ (10 ∷ 3 ∷ 1 ∷ []) ∷ (10 ∷ 3 ∷ 1 ∷ 3 ∷ 0 ∷ 0 ∷ []) ∷ (10 ∷ 3 ∷ 1 ∷ 3 ∷ 0 ∷ 0 ∷ 0 ∷ 0 ∷ []) ∷ (10 ∷ 3 ∷ 1 ∷ 3 ∷ 0 ∷ 0 ∷ 0 ∷ []) ∷ [])
+    : map (λ s. number s (layCall 0 0 []))
+    ([] ∷ (10 ∷ 3 ∷ 1 ∷ []) ∷ (10 ∷ 3 ∷ 1 ∷ 3 ∷ 0 ∷ 0 ∷ []) ∷ (10 ∷ 3 ∷ 1 ∷ 3 ∷ 0 ∷ 0 ∷ 0 ∷ 0 ∷ []) ∷ (10 ∷ 3 ∷ 1 ∷ 3 ∷ 0 ∷ 0 ∷ 0 ∷ []) ∷ [])
     ≡ 1 ∷ 1 ∷ 1 ∷ 1 ∷ 0 ∷ []
 unfolding number
 lengths = refl
