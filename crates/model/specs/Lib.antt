@@ -12,3 +12,4 @@ pub mod Questions
 pub mod Table
 pub mod Shelves
 pub mod Calls
+pub mod Answers

@@ -1,0 +1,5 @@
+pub mod Makes
+pub mod Opens
+pub mod Asks
+pub mod Lays
+pub mod Calls

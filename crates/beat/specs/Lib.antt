@@ -1,0 +1,3 @@
+-- What the functions of the calls are asked, answer and leave.
+pub mod Making
+pub mod Laying

@@ -1,0 +1,4 @@
+// The calls on shelves, exported to C: open and lay.
+pub mod cells;
+pub mod laying;
+pub mod opening;

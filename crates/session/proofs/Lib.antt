@@ -1,0 +1,5 @@
+pub mod Entries
+pub mod Frames
+pub mod Counts
+pub mod Readings
+pub mod Checks

@@ -1,0 +1,6 @@
+-- What the functions over a session's words answer and leave.
+pub mod Entering
+pub mod Reading
+pub mod Counting
+pub mod Listing
+pub mod Framing

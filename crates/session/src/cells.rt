@@ -1,0 +1,28 @@
+// How many cells a note has.
+ghost use mathlib.Core.Path.{_≡_};
+ghost use Prim.Native.Nat.{_+_, _*_, _≤_, _<_};
+ghost use lib.ListN.{length};
+ghost use lib.Dec.{leb};
+ghost use Rattle.model.specs.Limits.{maxBeats, maxDelta};
+ghost use Rattle.model.specs.Pieces.{cellsOfNote};
+ghost use Rattle.session.specs.Counting.{oneIf};
+use model::Note;
+
+// 1 if a ≤ b, else 0.
+fn one_if_within(a: u32, b: u32) -> u32
+    ensures { λ r. ⌜ (r ≡ oneIf (leb a b)) × (r ≤ 1) ⌝ }
+{
+    if a <= b { 1 } else { 0 }
+}
+
+// Two cells at each line that the note crosses, one at a line where it starts or ends.
+pub fn cell_count(delta: u32, n: Note) -> u32
+    requires { ⌜ (0 < delta) × (delta ≤ maxDelta) × (n .start < n .end) × (n .end ≤ maxBeats * delta) ⌝ }
+    ensures { λ r. ⌜ r ≡ length (cellsOfNote delta n) ⌝ }
+{
+    let first = n.start / delta;
+    let last = (n.end - 1) / delta;
+    let starts = one_if_within(n.start, first * delta);
+    let ends = one_if_within((last + 1) * delta, n.end);
+    starts + 2 * (last - first) + ends
+}
