@@ -3,3 +3,10 @@ pub mod Frames
 pub mod Counts
 pub mod Readings
 pub mod Checks
+pub mod WaysOut
+pub mod Layouts
+pub mod Lasts
+pub mod Chains
+pub mod Walks
+pub mod Standings
+pub mod Shelves
