@@ -42,3 +42,4 @@ pub mod CutLines
 pub mod Cutting
 pub mod CutSides
 pub mod Halves
+pub mod SeamWalk
