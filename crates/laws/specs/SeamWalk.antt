@@ -224,3 +224,71 @@ module _ (H : Header) (le : (H .epsilon) ≤ (H .delta)) where
     -- the last cell is not bound to the first of bs: the notes of both
     pub walk-free : {cs : List Cell} → Pieced (H .delta) cs → Free cs → walk H false (cs ++ bs) ≡ walk H false cs ++ walk H false bs
     walk-free p e = free-walk p e false (λ t. absurd (true≢false (sym t)))
+
+    -- The last cell c of cs is bound to the first of bs, with which the note m begins: the last note of cs, or c's piece, goes on in m. It is
+    -- among the notes of cs if c stands alone.
+    pub record Goes (held : Bool) (c : Cell) (cs : List Cell) (m : Note) (ms : List Note) : Type 0 where
+      pub front : List Note
+      pub note : Note
+      pub whole : walk H held (cs ++ bs) ≡ front ++ joined note m ∷ ms
+      pub part : walk H held cs ≡ front ++ consIf (standsAlone H c) note []
+      pub short : standsAlone H c ≡ false → note ≡ own (H .delta) c
+
+    module _ (m : Note) (ms : List Note) where
+      -- the last piece
+      last-goes : (held : Bool) (c : Cell) (cs : List Cell) (n : Note) (shown : Bool) → shown ≡ standsAlone H c → (standsAlone H c ≡ false → n ≡ own (H .delta) c)
+          → walk H held (cs ++ bs) ≡ goOn n (m ∷ ms) → walk H held cs ≡ cond shown (n ∷ []) [] → Goes held c cs m ms
+      last-goes held c cs n shown a s w p = record {
+        front = [];
+        note = n;
+        whole = w;
+        part = p ∙ rw a (cons-cond (standsAlone H c) n []);
+        short = s;
+      }
+
+      -- a piece in front
+      more-goes : (held : Bool) (c : Cell) (cs rest : List Cell) (n : Note) (on shown : Bool) → (on ≡ true → Some (walk H on rest))
+          → walk H held (cs ++ bs) ≡ put n on shown (walk H on (rest ++ bs)) → walk H held cs ≡ put n on shown (walk H on rest)
+          → Goes on c rest m ms → Goes held c cs m ms
+      more-goes held c cs rest n on shown h w p g = go on shown (g .front) (standsAlone H c) refl (λ e. rw (g .part) at (h e)) (rw (g .whole) at w) (rw (g .part) at p)
+        where
+          go : (on shown : Bool) (fs : List Note) (a : Bool) → standsAlone H c ≡ a → (on ≡ true → Some (fs ++ consIf (standsAlone H c) (g .note) []))
+              → walk H held (cs ++ bs) ≡ put n on shown (fs ++ joined (g .note) m ∷ ms)
+              → walk H held cs ≡ put n on shown (fs ++ consIf (standsAlone H c) (g .note) []) → Goes held c cs m ms
+          go true shown [] true e s u v =
+              record { front = []; note = joined n (g .note); whole = u; part = v ∙ rw e; short = λ i. absurd (true≢false (sym e ∙ i)) }
+          go true shown [] false e s u v = absurd (rw e at (s refl))
+          go true shown (f ∷ fs) a e s u v = record { front = joined n f ∷ fs; note = g .note; whole = u; part = v; short = g .short }
+          go false true fs a e s u v = record { front = n ∷ fs; note = g .note; whole = u; part = v; short = g .short }
+          go false false fs a e s u v = record { front = fs; note = g .note; whole = u; part = v; short = g .short }
+
+      goes : {c : Cell} {cs : List Cell} → Pieced (H .delta) (c ∷ cs) → boundNext H (lastOr c cs) bs ≡ true → walk H true bs ≡ m ∷ ms → (held : Bool)
+          → (held ≡ true → opening c ≡ true) → Goes held (lastOr c cs) (c ∷ cs) m ms
+      goes (single {c = c} {cs = []} f g p) e w held o =
+          last-goes held c (c ∷ []) (own (H .delta) c) (standsAlone H c || held) (unheld held o) (λ i. refl)
+          (walk-single H c bs held f ∙ rw (e, w)) (walk-single H c [] held f ∙ unfold boundNext walk in refl)
+        where
+          unheld : (held : Bool) → (held ≡ true → opening c ≡ true) → standsAlone H c || held ≡ standsAlone H c
+          unheld true o = absurd (true≢false (sym e ∙ open-free H c bs (eqb-true (c .side) 0 (o refl))))
+          unheld false o = or-false (standsAlone H c)
+      goes (single {c = c} {cs = r ∷ rs} f g p) e w held o =
+          let b = boundNext H c (r ∷ rs) in
+          more-goes held (lastOr r rs) (c ∷ r ∷ rs) (r ∷ rs) (own (H .delta) c) b (standsAlone H c || held)
+          (λ t. rw t (some-held p (bound-opening c (r ∷ rs) t)))
+          (walk-single H c (r ∷ rs ++ bs) held f ∙ unfold boundNext in refl) (walk-single H c (r ∷ rs) held f)
+          (goes p e w b (bound-opening c (r ∷ rs)))
+      goes (double {c = c} {d = d} {cs = []} q p) e w held o =
+          let a : standsAlone H d ≡ true = fill-close-alone H le d (pair-filled (H .delta) c d q) in
+          last-goes held d (c ∷ d ∷ []) (span (H .delta) c d) true (sym a) (λ i. absurd (true≢false (sym a ∙ i)))
+          (walk-double H c d bs held q ∙ rw (e, w)) (walk-double H c d [] held q ∙ unfold boundNext walk in refl)
+      goes (double {c = c} {d = d} {cs = r ∷ rs} q p) e w held o =
+          let b = boundNext H d (r ∷ rs) in
+          more-goes held (lastOr r rs) (c ∷ d ∷ r ∷ rs) (r ∷ rs) (span (H .delta) c d) b true
+          (λ t. rw t (some-held p (bound-opening d (r ∷ rs) t)))
+          (walk-double H c d (r ∷ rs ++ bs) held q ∙ unfold boundNext in refl) (walk-double H c d (r ∷ rs) held q)
+          (goes p e w b (bound-opening d (r ∷ rs)))
+
+      -- the last cell is bound to the first of bs
+      pub walk-bound : {c : Cell} {cs : List Cell} → Pieced (H .delta) (c ∷ cs) → boundNext H (lastOr c cs) bs ≡ true → walk H true bs ≡ m ∷ ms
+          → Goes false (lastOr c cs) (c ∷ cs) m ms
+      walk-bound p e w = goes p e w false (λ t. absurd (true≢false (sym t)))
