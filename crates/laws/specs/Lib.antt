@@ -43,3 +43,4 @@ pub mod Cutting
 pub mod CutSides
 pub mod Halves
 pub mod SeamWalk
+pub mod SeamLanes
