@@ -44,3 +44,4 @@ pub mod CutSides
 pub mod Halves
 pub mod SeamWalk
 pub mod SeamLanes
+pub mod Seam
