@@ -45,3 +45,4 @@ pub mod Halves
 pub mod SeamWalk
 pub mod SeamLanes
 pub mod Seam
+pub mod Joined

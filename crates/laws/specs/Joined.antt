@@ -1,0 +1,222 @@
+-- The notes of a join of two solid takes, lane by lane: those of both, and at the seam what the binding rules decide.
+-- Assumes nothing.
+use mathlib.Core.Bool.{Bool, cond, false, true, true≢false}
+use mathlib.Core.List.{List, [], _++_, _∷_, append-nil, map}
+use mathlib.Core.Path.{_∙_, _≡_, ap, ap₂, refl, subst, sym}
+use Prim.Native.Nat.{_*_, _+_, _-_, _<_, _≤_, suc, ℕ}
+use native.Mathlib.Omega.{arith}
+use borrow.Author.Tests.{eq-eqb}
+use Rattle.model.specs.Binding.{boundNext, lineNotes, standsAlone}
+use Rattle.model.specs.Lists.{consIf, gather, keep}
+use Rattle.model.specs.Takes.{Take, joinTakes, merge, notesOf}
+use Rattle.model.specs.declared.Cell.{Cell}
+use Rattle.model.specs.declared.Header.{Header}
+use Rattle.model.specs.declared.Note.{Note}
+use Rattle.laws.specs.CutLines.{joined}
+use Rattle.laws.specs.Merging.{merge-second}
+use Rattle.laws.specs.Notes.{Away, Before, Fair, Follow, Long, above, before, later, left, right}
+use Rattle.laws.specs.Order.{aways, walk-fair}
+use Rattle.laws.specs.Partners.{all-parts}
+use Rattle.laws.specs.Relations.{All, all-append, all-imp}
+use Rattle.laws.specs.Rules.{own}
+use Rattle.laws.specs.Seam.{AtLine, at-line, bound-at, boundAt, butFirst, butLast, butLast-append, endingAt, firstOr, fromOn, joinApart, joinLane, joinOver, last-append, own-ending, own-starting, startingAt0, upTo}
+use Rattle.laws.specs.SeamLanes.{AllBefore, CellsOn, NotesOn, merge-apart, merge-later, notes-walk, walk-lane}
+use Rattle.laws.specs.SeamWalk.{Free, Goes, Opened, cellLater, lastOr, noteLater, opened, walk-bound, walk-free, walk-later}
+use Rattle.laws.specs.Solid.{Fine, Solid}
+use Rattle.laws.specs.Walk.{line-walk, walk}
+
+-- ---- two takes of one lane
+
+-- The second take behind the first.
+abbrev pub behind : ℕ → Take → Take → Take
+behind δ t u = record {
+  beats = t .beats + u .beats;
+  inner = t .inner ++ map (noteLater (t .beats * δ)) (u .inner);
+  cells = t .cells ++ map (cellLater (t .beats)) (u .cells);
+}
+
+-- A solid take with notes and cells of lane l only.
+pub record OneLane (δ l : ℕ) (t : Take) : Type 0 where
+  pub solid : Solid δ t
+  pub notes-there : NotesOn l (t .inner)
+  pub cells-there : CellsOn l (t .cells)
+
+module _ (H : Header) (z : 0 < (H .delta)) (le : (H .epsilon) ≤ (H .delta)) (l : ℕ) (t u : Take)
+    (p : OneLane (H .delta) l t) (q : OneLane (H .delta) l u) (w : OneLane (H .delta) l (behind (H .delta) t u)) where
+  abbrev k : ℕ
+  k = t .beats
+
+  abbrev tick : ℕ
+  tick = t .beats * H .delta
+
+  abbrev L : Note → Note
+  L = noteLater (t .beats * H .delta)
+
+  -- what ends at the line or before it lies before what starts there or behind it
+  early-one : (n : Note) → Fair (H .delta) k n → n .lane ≡ l → (ms : List Note) → NotesOn l ms → All (Before n) (map L ms)
+  early-one n f e [] a = tt
+  early-one n f e (m ∷ ms) a =
+      let h : n .end ≤ tick = f .fits in
+      (before n (L m) (f .order) (later (e ∙ sym (a .0)) (omega arith)), early-one n f e ms (a .1))
+
+  early : (ns ms : List Note) → All (Fair (H .delta) k) ns → NotesOn l ns → NotesOn l ms → AllBefore ns (map L ms)
+  early [] ms f e a = tt
+  early (n ∷ ns) ms f e a = (early-one n (f .0) (e .0) ms a, early ns ms (f .1) (e .1) a)
+
+  first-fair : All (Fair (H .delta) k) (walk H false (t .cells))
+  first-fair = walk-fair H k z (p .solid .cells-pieced) (p .solid .cells-fine) (p .solid .cells-apart) false
+
+  first-on : NotesOn l (walk H false (t .cells))
+  first-on = walk-lane H l (t .cells) false (p .cells-there)
+
+  -- the notes of both as merged parts
+  whole-is : (ns : List Note) → walk H false (t .cells ++ map (cellLater k) (u .cells)) ≡ ns
+      → notesOf H (behind (H .delta) t u) ≡ merge (t .inner ++ map L (u .inner)) ns
+  whole-is ns e = notes-walk H z le (behind (H .delta) t u) (w .solid) ∙ ap (merge (t .inner ++ map L (u .inner))) e
+
+  first-is : notesOf H t ≡ merge (t .inner) (walk H false (t .cells))
+  first-is = notes-walk H z le t (p .solid)
+
+  second-is : notesOf H u ≡ merge (u .inner) (walk H false (u .cells))
+  second-is = notes-walk H z le u (q .solid)
+
+  -- not bound over the line
+  apart-notes : Free H le (map (cellLater k) (u .cells)) (t .cells) → notesOf H (behind (H .delta) t u) ≡ joinApart tick (notesOf H t) (notesOf H u)
+  apart-notes f =
+      let a = walk H false (t .cells) in
+      let b = walk H false (u .cells) in
+      whole-is (a ++ map L b) (walk-free H le (map (cellLater k) (u .cells)) (p .solid .cells-pieced) f ∙ ap (_++_ a) (walk-later H k (q .solid .cells-pieced) false))
+      ∙ merge-apart (t .inner) (map L (u .inner)) a (map L b)
+      (early (t .inner) b (p .solid .notes-fair) (p .notes-there) (walk-lane H l (u .cells) false (q .cells-there)))
+      (early a (u .inner) first-fair first-on (q .notes-there))
+      ∙ ap₂ _++_ (sym first-is) (merge-later tick (u .inner) b ∙ ap (map L) (sym second-is))
+
+  -- ---- bound over the line
+
+  -- a note of the first take that lies away from one that goes over the line lies before it
+  first-follow : (n j : Note) → Fair (H .delta) k n → n .lane ≡ j .lane → tick < j .end → Away n j → Follow n j
+  first-follow n j f e h (left g) = g
+  first-follow n j f e h (right (above a)) = absurd (omega arith)
+  first-follow n j f e h (right (later a b)) = let o = f .order in let i : n .end ≤ tick = f .fits in absurd (omega arith)
+
+  -- one of the second take lies behind it
+  second-follow : (n j : Note) → Long n → n .lane ≡ j .lane → j .start < tick → Away (L n) j → Follow j (L n)
+  second-follow n j v e h (right g) = g
+  second-follow n j v e h (left (above a)) = absurd (omega arith)
+  second-follow n j v e h (left (later a b)) = absurd (omega arith)
+
+  -- The note j over the line is x up to it and m from it on.
+  record Over (fs : List Note) (x m : Note) (ms : List Note) (a b : Bool) : Type 0 where
+    whole : walk H false (t .cells ++ map (cellLater k) (u .cells)) ≡ fs ++ joined x (L m) ∷ map L ms
+    first-part : walk H false (t .cells) ≡ fs ++ consIf a x []
+    second-part : walk H false (u .cells) ≡ consIf b m ms
+    first-starts : x .start < tick
+    second-ends : m .start < m .end
+    second-on : NotesOn l (m ∷ ms)
+
+  module _ (fs : List Note) (x m : Note) (ms : List Note) (a b : Bool) (o : Over fs x m ms a b) where
+    abbrev j : Note
+    j = joined x (L m)
+
+    over-on : NotesOn l (fs ++ j ∷ map L ms)
+    over-on = rw (o .whole) at (walk-lane H l ((behind (H .delta) t u) .cells) false (w .cells-there))
+
+    lane-is : x .lane ≡ l
+    lane-is = (all-parts (λ n. n .lane ≡ l) fs (j ∷ map L ms) over-on) .1 .0
+
+    away : All (λ n. Away n j) (t .inner ++ map L (u .inner))
+    away =
+        let v = behind (H .delta) t u in
+        let s = w .solid in
+        all-imp (λ n. All (Away n) (lineNotes H (v .cells))) (λ n. Away n j) (v .inner)
+        (λ n c. (all-parts (Away n) fs (j ∷ map L ms) (rw (line-walk H le (s .cells-pieced), o .whole) at c)) .1 .0)
+        (aways H z le v s (v .inner) (s .notes-fair) (s .notes-inside) (s .all-clear))
+
+    firsts : All (λ n. Follow n j) (t .inner)
+    firsts = go (t .inner) (p .solid .notes-fair) (p .notes-there) ((all-parts (λ n. Away n j) (t .inner) (map L (u .inner)) away) .0)
+      where
+        go : (ns : List Note) → All (Fair (H .delta) k) ns → NotesOn l ns → All (λ n. Away n j) ns → All (λ n. Follow n j) ns
+        go [] f e c = tt
+        go (n ∷ ns) f e c =
+            let h = o .second-ends in
+            (first-follow n j (f .0) (e .0 ∙ sym lane-is) (omega arith) (c .0), go ns (f .1) (e .1) (c .1))
+
+    seconds : All (λ n. Follow j (L n)) (u .inner)
+    seconds = go (u .inner) (q .solid .notes-fair) (q .notes-there) ((all-parts (λ n. Away n j) (t .inner) (map L (u .inner)) away) .1)
+      where
+        go : (ns : List Note) → All (Fair (H .delta) (u .beats)) ns → NotesOn l ns → All (λ n. Away n j) (map L ns) → All (λ n. Follow j (L n)) ns
+        go [] f e c = tt
+        go (n ∷ ns) f e c = (second-follow n j (f .0 .order) (e .0 ∙ sym lane-is) (o .first-starts) (c .0), go ns (f .1) (e .1) (c .1))
+
+    -- all that lies up to the line, and all that lies behind it
+    abbrev ups : List Note
+    ups = merge (t .inner) fs
+
+    abbrev downs : List Note
+    downs = merge (u .inner) ms
+
+    over-whole : notesOf H (behind (H .delta) t u) ≡ ups ++ j ∷ map L downs
+    over-whole =
+        let fair-fs = (all-parts (Fair (H .delta) k) fs (consIf a x []) (rw (o .first-part) at first-fair)) .0 in
+        whole-is (fs ++ j ∷ map L ms) (o .whole)
+        ∙ merge-apart (t .inner) (map L (u .inner)) fs (j ∷ map L ms) (before-all (t .inner) (p .solid .notes-fair) (p .notes-there) firsts)
+        (early fs (u .inner) fair-fs ((all-parts (λ n. n .lane ≡ l) fs (j ∷ map L ms) over-on) .0) (q .notes-there))
+        ∙ ap (_++_ ups) (merge-second j (map L (u .inner)) (map L ms) (behind-all (u .inner) seconds) ∙ ap (_∷_ j) (merge-later tick (u .inner) ms))
+      where
+        before-all : (ns : List Note) → All (Fair (H .delta) k) ns → NotesOn l ns → All (λ n. Follow n j) ns → AllBefore ns (j ∷ map L ms)
+        before-all [] f e c = tt
+        before-all (n ∷ ns) f e c = ((before n j (f .0 .order) (c .0), early-one n (f .0) (e .0) ms (o .second-on .1)), before-all ns (f .1) (e .1) (c .1))
+
+        behind-all : (ns : List Note) → All (λ n. Follow j (L n)) ns → All (Before j) (map L ns)
+        behind-all [] c = tt
+        behind-all (n ∷ ns) c = let h = o .second-ends in let i = o .first-starts in (before j (L n) (omega arith) (c .0), behind-all ns (c .1))
+
+    over-first : notesOf H t ≡ ups ++ consIf a x []
+    over-first =
+        first-is ∙ ap (merge (t .inner)) (o .first-part)
+        ∙ sym (ap (λ (ns : List Note). merge ns (fs ++ consIf a x [])) (append-nil (t .inner)))
+        ∙ merge-apart (t .inner) [] fs (consIf a x []) (before-all (t .inner) (p .solid .notes-fair) firsts) (none fs) ∙ unfold merge in refl
+      where
+        to-x : (n : Note) → Follow n j → Follow n x
+        to-x n (above h) = above h
+        to-x n (later e h) = later e h
+
+        before-one : (a : Bool) (n : Note) → Long n → Follow n j → All (Before n) (consIf a x [])
+        before-one true n v c = (before n x v (to-x n c), tt)
+        before-one false n v c = tt
+
+        before-all : (ns : List Note) → All (Fair (H .delta) k) ns → All (λ n. Follow n j) ns → AllBefore ns (consIf a x [])
+        before-all [] f c = tt
+        before-all (n ∷ ns) f c = (before-one a n (f .0 .order) (c .0), before-all ns (f .1) (c .1))
+
+        none : (ns : List Note) → AllBefore ns []
+        none [] = tt
+        none (n ∷ ns) = (tt, none ns)
+
+    over-second : notesOf H u ≡ consIf b m downs
+    over-second = second-is ∙ ap (merge (u .inner)) (o .second-part) ∙ go b
+      where
+        to-m : (n : Note) → n .lane ≡ l → Follow j (L n) → Follow m n
+        to-m n e (above h) = let i = lane-is in absurd (omega arith)
+        to-m n e (later i h) = let g : m .lane ≡ l = o .second-on .0 in later (g ∙ sym e) (omega arith)
+
+        before-all : (ns : List Note) → NotesOn l ns → All (λ n. Follow j (L n)) ns → All (Before m) ns
+        before-all [] e c = tt
+        before-all (n ∷ ns) e c = (before m n (o .second-ends) (to-m n (e .0) (c .0)), before-all ns (e .1) (c .1))
+
+        go : (b : Bool) → merge (u .inner) (consIf b m ms) ≡ consIf b m downs
+        go true = merge-second m (u .inner) ms (before-all (u .inner) (q .notes-there) seconds)
+        go false = refl
+
+    -- c and d are the cells at the line, and say which of the notes are there
+    over-join : (c d : Cell) → standsAlone H c ≡ a → standsAlone H d ≡ b → (a ≡ false → x ≡ endingAt tick c) → (b ≡ false → m ≡ startingAt0 d)
+        → notesOf H (behind (H .delta) t u) ≡ joinOver H tick c d (notesOf H t) (notesOf H u)
+    unfolding joinOver
+    over-join c d e f g h = over-whole ∙ sym (rw (over-first, over-second) (go a b e f g h ups downs))
+      where
+        go : (a b : Bool) → standsAlone H c ≡ a → standsAlone H d ≡ b → (a ≡ false → x ≡ endingAt tick c) → (b ≡ false → m ≡ startingAt0 d)
+            → (ns ds : List Note) → joinOver H tick c d (ns ++ consIf a x []) (consIf b m ds) ≡ ns ++ j ∷ map L ds
+        go true true e f g h ns ds = rw (e, f, butLast-append ns x, last-append (endingAt tick c) ns x)
+        go true false e f g h ns ds = rw (e, f, butLast-append ns x, last-append (endingAt tick c) ns x, h refl)
+        go false true e f g h ns ds = rw (e, f, append-nil ns, g refl)
+        go false false e f g h ns ds = rw (e, f, append-nil ns, g refl, h refl)
