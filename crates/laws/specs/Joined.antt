@@ -5,7 +5,7 @@ use mathlib.Core.List.{List, [], _++_, _∷_, append-nil, map}
 use mathlib.Core.Path.{_∙_, _≡_, ap, ap₂, refl, subst, sym}
 use Prim.Native.Nat.{_*_, _+_, _-_, _<_, _≤_, suc, ℕ}
 use native.Mathlib.Omega.{arith}
-use borrow.Author.Tests.{eq-eqb}
+use borrow.Author.Tests.{eq-eqb, ne-eqb}
 use Rattle.model.specs.Binding.{boundNext, lineNotes, standsAlone}
 use Rattle.model.specs.Lists.{consIf, gather, keep}
 use Rattle.model.specs.Takes.{Take, joinTakes, merge, notesOf}
@@ -19,7 +19,7 @@ use Rattle.laws.specs.Order.{aways, walk-fair}
 use Rattle.laws.specs.Partners.{all-parts}
 use Rattle.laws.specs.Relations.{All, all-append, all-imp}
 use Rattle.laws.specs.Rules.{own}
-use Rattle.laws.specs.Seam.{AtLine, at-line, bound-at, boundAt, butFirst, butLast, butLast-append, endingAt, firstOr, fromOn, joinApart, joinLane, joinOver, last-append, own-ending, own-starting, startingAt0, upTo}
+use Rattle.laws.specs.Seam.{AtLine, at-line, bound-at, boundAt, butFirst, butLast, butLast-append, endingAt, firstOr, fromOn, joinApart, joinLane, joinOver, last-all, last-append, own-ending, own-starting, startingAt0, upTo}
 use Rattle.laws.specs.SeamLanes.{AllBefore, CellsOn, NotesOn, merge-apart, merge-later, notes-walk, walk-lane}
 use Rattle.laws.specs.SeamWalk.{Free, Goes, Opened, cellLater, lastOr, noteLater, opened, walk-bound, walk-free, walk-later}
 use Rattle.laws.specs.Solid.{Fine, Solid}
@@ -220,3 +220,83 @@ module _ (H : Header) (z : 0 < (H .delta)) (le : (H .epsilon) ≤ (H .delta)) (l
         go true false e f g h ns ds = rw (e, f, butLast-append ns x, last-append (endingAt tick c) ns x, h refl)
         go false true e f g h ns ds = rw (e, f, append-nil ns, g refl)
         go false false e f g h ns ds = rw (e, f, append-nil ns, g refl, h refl)
+
+-- A take from its parts.
+abbrev takeWith : ℕ → List Note → List Cell → Take
+takeWith n ns cs = record { beats = n; inner = ns; cells = cs }
+
+module _ (H : Header) (z : 0 < (H .delta)) (le : (H .epsilon) ≤ (H .delta)) (l n : ℕ) (ti : List Note) (m : ℕ) (ui : List Note) where
+  -- Both are of one lane, and so is the second behind the first.
+  record Lanes (cs ds : List Cell) : Type 0 where
+    first : OneLane (H .delta) l (takeWith n ti cs)
+    second : OneLane (H .delta) l (takeWith m ui ds)
+    both : OneLane (H .delta) l (behind (H .delta) (takeWith n ti cs) (takeWith m ui ds))
+
+  abbrev Law : List Cell → List Cell → Type 0
+  Law cs ds = notesOf H (behind (H .delta) (takeWith n ti cs) (takeWith m ui ds)) ≡ joinLane H n (notesOf H (takeWith n ti cs)) cs (notesOf H (takeWith m ui ds)) ds
+
+  module _ (c : Cell) (cs : List Cell) (d : Cell) (ds : List Cell) (s : Lanes (c ∷ cs) (d ∷ ds)) where
+    abbrev x : Cell
+    x = lastOr c cs
+
+    is-bound : boundNext H x (map (cellLater n) (d ∷ ds)) ≡ boundAt H n x d
+    is-bound =
+        bound-at H n x d ds (last-all (λ y. y .lane ≡ l) c cs (s .first .cells-there) ∙ sym (s .second .cells-there .0))
+        ((last-all (Fine (H .delta) n) c cs (s .first .solid .cells-fine)) .beat-below)
+
+    abbrev OverLaw : Type 0
+    OverLaw = notesOf H (behind (H .delta) (takeWith n ti (c ∷ cs)) (takeWith m ui (d ∷ ds))) ≡ joinOver H (n * H .delta) x d (notesOf H (takeWith n ti (c ∷ cs))) (notesOf H (takeWith m ui (d ∷ ds)))
+
+    abbrev After : Opened H le d ds → Type 0
+    After o = Goes H le (map (cellLater n) (d ∷ ds)) false x (c ∷ cs) (noteLater (n * H .delta) (o .note)) (map (noteLater (n * H .delta)) (o .rest))
+
+    over-from : AtLine H n x d → (o : Opened H le d ds) → After o → OverLaw
+    over-from line o g =
+        let v : Solid (H .delta) (takeWith m ui (d ∷ ds)) = s .second .solid in
+        over-join H z le l (takeWith n ti (c ∷ cs)) (takeWith m ui (d ∷ ds)) (s .first) (s .second) (s .both)
+        (g .front) (g .note) (o .note) (o .rest) (standsAlone H x) (standsAlone H d)
+        (record {
+          whole = g .whole;
+          first-part = g .part;
+          second-part = o .unheld;
+          first-starts = starts (standsAlone H x) refl (g .part);
+          second-ends = (rw (o .held) at (walk-fair H m z (v .cells-pieced) (v .cells-fine) (v .cells-apart) true)) .0 .order;
+          second-on = rw (o .held) at (walk-lane H l (d ∷ ds) true (s .second .cells-there));
+        })
+        x d refl refl (λ i. g .short i ∙ own-ending H n x d line) (λ i. o .short i ∙ own-starting H n x d line)
+      where
+        starts : (a : Bool) → standsAlone H x ≡ a → walk H false (c ∷ cs) ≡ g .front ++ consIf a (g .note) [] → (g .note) .start < n * H .delta
+        starts true e w =
+            let t : Solid (H .delta) (takeWith n ti (c ∷ cs)) = s .first .solid in
+            let a = (all-parts (Fair (H .delta) n) (g .front) ((g .note) ∷ []) (rw w at (walk-fair H n z (t .cells-pieced) (t .cells-fine) (t .cells-apart) false))) .1 .0 in
+            let b = a .order in
+            let i : (g .note) .end ≤ n * H .delta = a .fits in
+            omega arith
+        starts false e w =
+            let f : Fine (H .delta) n x = last-all (Fine (H .delta) n) c cs (s .first .solid .cells-fine) in
+            let side = line .closes in
+            let b : 0 < x .before = f .close-ticks (ne-eqb (x .side) 0 (omega arith)) in
+            let i : suc (x .beat) * H .delta ≡ n * H .delta = ap (λ (k : ℕ). k * H .delta) (line .last-beat) in
+            rw (g .short e ∙ own-ending H n x d line) (omega arith)
+
+    over-law : boundAt H n x d ≡ true → OverLaw
+    over-law e =
+        let line = at-line H n x d e in
+        let o = opened H le (s .second .solid .cells-pieced) (eq-eqb (d .side) 0 (line .opens)) in
+        over-from line o (walk-bound H le (map (cellLater n) (d ∷ ds)) (noteLater (n * H .delta) (o .note)) (map (noteLater (n * H .delta)) (o .rest)) (s .first .solid .cells-pieced) (is-bound ∙ e)
+        (walk-later H n (s .second .solid .cells-pieced) true ∙ ap (map (noteLater (n * H .delta))) (o .held)))
+
+  lane-cases : (cs ds : List Cell) → Lanes cs ds → Law cs ds
+  unfolding joinLane
+  lane-cases [] ds s = apart-notes H z le l (takeWith n ti []) (takeWith m ui ds) (s .first) (s .second) (s .both) tt
+  lane-cases (c ∷ cs) [] s = apart-notes H z le l (takeWith n ti (c ∷ cs)) (takeWith m ui []) (s .first) (s .second) (s .both) (unfold boundNext in refl)
+  lane-cases (c ∷ cs) (d ∷ ds) s = go (boundAt H n (lastOr c cs) d) refl
+    where
+      go : (b : Bool) → boundAt H n (lastOr c cs) d ≡ b → Law (c ∷ cs) (d ∷ ds)
+      go true e = rw (e, joinLane) (over-law c cs d ds s e)
+      go false e = rw (e, joinLane) (apart-notes H z le l (takeWith n ti (c ∷ cs)) (takeWith m ui (d ∷ ds)) (s .first) (s .second) (s .both) (is-bound c cs d ds s ∙ e))
+
+-- the notes of two takes of one lane, one behind the other
+pub lane-join : (H : Header) → 0 < H .delta → H .epsilon ≤ H .delta → (l : ℕ) (t u : Take) → OneLane (H .delta) l t → OneLane (H .delta) l u
+    → OneLane (H .delta) l (behind (H .delta) t u) → notesOf H (behind (H .delta) t u) ≡ joinLane H (t .beats) (notesOf H t) (t .cells) (notesOf H u) (u .cells)
+lane-join H z le l t u p q w = lane-cases H z le l (t .beats) (t .inner) (u .beats) (u .inner) (t .cells) (u .cells) (record { first = p; second = q; both = w })

@@ -15,6 +15,7 @@ use Rattle.model.specs.declared.Note.{Note}
 use Rattle.laws.specs.Booleans.{and-left, and-right}
 use Rattle.laws.specs.CutLines.{joined}
 use Rattle.laws.specs.Notes.{note-same}
+use Rattle.laws.specs.Relations.{All}
 use Rattle.laws.specs.Rules.{moved-bound, own}
 use Rattle.laws.specs.SeamWalk.{cellLater, lastOr, noteLater}
 
@@ -44,6 +45,11 @@ module _ {A : Type 0} where
   butLast-append [] x = refl
   butLast-append (y ∷ []) x = refl
   butLast-append (y ∷ w ∷ ws) x = rw (butLast-append (w ∷ ws) x)
+
+  -- what holds of all holds of the last
+  pub last-all : (P : A → Type 0) (x : A) (xs : List A) → All P (x ∷ xs) → P (lastOr x xs)
+  last-all P x [] a = a .0
+  last-all P x (y ∷ ys) a = last-all P y ys (a .1)
 
 -- ---- one lane
 
