@@ -46,3 +46,4 @@ pub mod SeamWalk
 pub mod SeamLanes
 pub mod Seam
 pub mod Joined
+pub mod JoinLanes
