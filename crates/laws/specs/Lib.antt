@@ -47,3 +47,4 @@ pub mod SeamLanes
 pub mod Seam
 pub mod Joined
 pub mod JoinLanes
+pub mod JoinWalk
