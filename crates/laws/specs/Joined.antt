@@ -5,6 +5,7 @@ use mathlib.Core.List.{List, [], _++_, _∷_, append-nil, map}
 use mathlib.Core.Path.{_∙_, _≡_, ap, ap₂, refl, subst, sym}
 use Prim.Native.Nat.{_*_, _+_, _-_, _<_, _≤_, suc, ℕ}
 use native.Mathlib.Omega.{arith}
+use lib.ListN.{length, length-append}
 use borrow.Author.Tests.{eq-eqb, ne-eqb}
 use Rattle.model.specs.Binding.{boundNext, lineNotes, standsAlone}
 use Rattle.model.specs.Lists.{consIf, gather, keep}
@@ -13,13 +14,14 @@ use Rattle.model.specs.declared.Cell.{Cell}
 use Rattle.model.specs.declared.Header.{Header}
 use Rattle.model.specs.declared.Note.{Note}
 use Rattle.laws.specs.CutLines.{joined}
+use Rattle.laws.specs.Lists.{length-map}
 use Rattle.laws.specs.Merging.{merge-second}
 use Rattle.laws.specs.Notes.{Away, Before, Fair, Follow, Long, above, before, later, left, right}
 use Rattle.laws.specs.Order.{aways, walk-fair}
 use Rattle.laws.specs.Partners.{all-parts}
 use Rattle.laws.specs.Relations.{All, all-append, all-imp}
 use Rattle.laws.specs.Rules.{own}
-use Rattle.laws.specs.Seam.{AtLine, at-line, bound-at, boundAt, butFirst, butLast, butLast-append, endingAt, firstOr, fromOn, joinApart, joinLane, joinOver, last-all, last-append, own-ending, own-starting, startingAt0, upTo}
+use Rattle.laws.specs.Seam.{AtLine, at-line, bound-at, boundAt, butFirst, butLast, butLast-append, endingAt, firstOr, fromOn, joinApart, joinLane, joinOver, last-all, last-append, lone, one, own-ending, own-starting, seamOf, startingAt0, upTo}
 use Rattle.laws.specs.SeamLanes.{AllBefore, CellsOn, NotesOn, merge-apart, merge-later, notes-walk, walk-lane}
 use Rattle.laws.specs.SeamWalk.{Free, Goes, Opened, cellLater, lastOr, noteLater, opened, walk-bound, walk-free, walk-later}
 use Rattle.laws.specs.Solid.{Fine, Solid}
@@ -40,6 +42,11 @@ pub record OneLane (δ l : ℕ) (t : Take) : Type 0 where
   pub solid : Solid δ t
   pub notes-there : NotesOn l (t .inner)
   pub cells-there : CellsOn l (t .cells)
+
+-- A note goes over the line, from t, where c is its cell, to u, where d is: what the notes of both are then, and how many.
+pub record Crossed (H : Header) (t u : Take) (c d : Cell) : Type 0 where
+  pub notes-are : notesOf H (behind (H .delta) t u) ≡ joinOver H (t .beats * H .delta) c d (notesOf H t) (notesOf H u)
+  pub length-is : length (notesOf H (behind (H .delta) t u)) + (one (standsAlone H c) + one (standsAlone H d)) ≡ length (notesOf H t) + length (notesOf H u) + 1
 
 module _ (H : Header) (z : 0 < (H .delta)) (le : (H .epsilon) ≤ (H .delta)) (l : ℕ) (t u : Take)
     (p : OneLane (H .delta) l t) (q : OneLane (H .delta) l u) (w : OneLane (H .delta) l (behind (H .delta) t u)) where
@@ -221,6 +228,26 @@ module _ (H : Header) (z : 0 < (H .delta)) (le : (H .epsilon) ≤ (H .delta)) (l
         go false true e f g h ns ds = rw (e, f, append-nil ns, g refl)
         go false false e f g h ns ds = rw (e, f, append-nil ns, g refl, h refl)
 
+    -- one note more, and one less for each of the two cells that stands alone
+    over-length : length (notesOf H (behind (H .delta) t u)) + (one a + one b) ≡ length (notesOf H t) + length (notesOf H u) + 1
+    over-length = rw (over-whole, over-first, over-second) (go a b)
+      where
+        go : (a b : Bool) → length (ups ++ j ∷ map L downs) + (one a + one b) ≡ length (ups ++ consIf a x []) + length (consIf b m downs) + 1
+        go true true = simp (length-append, length-map) (omega arith)
+        go true false = simp (length-append, length-map) (omega arith)
+        go false true = simp (length-append, length-map) (omega arith)
+        go false false = simp (length-append, length-map) (omega arith)
+
+  crossed : (fs : List Note) (x m : Note) (ms : List Note) (c d : Cell) → Over fs x m ms (standsAlone H c) (standsAlone H d)
+      → (standsAlone H c ≡ false → x ≡ endingAt tick c) → (standsAlone H d ≡ false → m ≡ startingAt0 d) → Crossed H t u c d
+  crossed fs x m ms c d o g h =
+      let a = standsAlone H c in
+      let b = standsAlone H d in
+      record {
+        notes-are = over-join fs x m ms a b o c d refl refl g h;
+        length-is = over-length fs x m ms a b o;
+      }
+
 -- A take from its parts.
 abbrev takeWith : ℕ → List Note → List Cell → Take
 takeWith n ns cs = record { beats = n; inner = ns; cells = cs }
@@ -244,26 +271,21 @@ module _ (H : Header) (z : 0 < (H .delta)) (le : (H .epsilon) ≤ (H .delta)) (l
         bound-at H n x d ds (last-all (λ y. y .lane ≡ l) c cs (s .first .cells-there) ∙ sym (s .second .cells-there .0))
         ((last-all (Fine (H .delta) n) c cs (s .first .solid .cells-fine)) .beat-below)
 
-    abbrev OverLaw : Type 0
-    OverLaw = notesOf H (behind (H .delta) (takeWith n ti (c ∷ cs)) (takeWith m ui (d ∷ ds))) ≡ joinOver H (n * H .delta) x d (notesOf H (takeWith n ti (c ∷ cs))) (notesOf H (takeWith m ui (d ∷ ds)))
-
     abbrev After : Opened H le d ds → Type 0
     After o = Goes H le (map (cellLater n) (d ∷ ds)) false x (c ∷ cs) (noteLater (n * H .delta) (o .note)) (map (noteLater (n * H .delta)) (o .rest))
 
-    over-from : AtLine H n x d → (o : Opened H le d ds) → After o → OverLaw
+    over-from : AtLine H n x d → (o : Opened H le d ds) → After o → Crossed H (takeWith n ti (c ∷ cs)) (takeWith m ui (d ∷ ds)) x d
     over-from line o g =
         let v : Solid (H .delta) (takeWith m ui (d ∷ ds)) = s .second .solid in
-        over-join H z le l (takeWith n ti (c ∷ cs)) (takeWith m ui (d ∷ ds)) (s .first) (s .second) (s .both)
-        (g .front) (g .note) (o .note) (o .rest) (standsAlone H x) (standsAlone H d)
-        (record {
+        let o' : Over H z le l (takeWith n ti (c ∷ cs)) (takeWith m ui (d ∷ ds)) (s .first) (s .second) (s .both) (g .front) (g .note) (o .note) (o .rest) (standsAlone H x) (standsAlone H d) = record {
           whole = g .whole;
           first-part = g .part;
           second-part = o .unheld;
           first-starts = starts (standsAlone H x) refl (g .part);
           second-ends = (rw (o .held) at (walk-fair H m z (v .cells-pieced) (v .cells-fine) (v .cells-apart) true)) .0 .order;
           second-on = rw (o .held) at (walk-lane H l (d ∷ ds) true (s .second .cells-there));
-        })
-        x d refl refl (λ i. g .short i ∙ own-ending H n x d line) (λ i. o .short i ∙ own-starting H n x d line)
+        } in
+        crossed H z le l (takeWith n ti (c ∷ cs)) (takeWith m ui (d ∷ ds)) (s .first) (s .second) (s .both) (g .front) (g .note) (o .note) (o .rest) x d o' (λ i. g .short i ∙ own-ending H n x d line) (λ i. o .short i ∙ own-starting H n x d line)
       where
         starts : (a : Bool) → standsAlone H x ≡ a → walk H false (c ∷ cs) ≡ g .front ++ consIf a (g .note) [] → (g .note) .start < n * H .delta
         starts true e w =
@@ -279,7 +301,7 @@ module _ (H : Header) (z : 0 < (H .delta)) (le : (H .epsilon) ≤ (H .delta)) (l
             let i : suc (x .beat) * H .delta ≡ n * H .delta = ap (λ (k : ℕ). k * H .delta) (line .last-beat) in
             rw (g .short e ∙ own-ending H n x d line) (omega arith)
 
-    over-law : boundAt H n x d ≡ true → OverLaw
+    over-law : boundAt H n x d ≡ true → Crossed H (takeWith n ti (c ∷ cs)) (takeWith m ui (d ∷ ds)) x d
     over-law e =
         let line = at-line H n x d e in
         let o = opened H le (s .second .solid .cells-pieced) (eq-eqb (d .side) 0 (line .opens)) in
@@ -293,10 +315,33 @@ module _ (H : Header) (z : 0 < (H .delta)) (le : (H .epsilon) ≤ (H .delta)) (l
   lane-cases (c ∷ cs) (d ∷ ds) s = go (boundAt H n (lastOr c cs) d) refl
     where
       go : (b : Bool) → boundAt H n (lastOr c cs) d ≡ b → Law (c ∷ cs) (d ∷ ds)
-      go true e = rw (e, joinLane) (over-law c cs d ds s e)
+      go true e = rw (e, joinLane) ((over-law c cs d ds s e) .notes-are)
       go false e = rw (e, joinLane) (apart-notes H z le l (takeWith n ti (c ∷ cs)) (takeWith m ui (d ∷ ds)) (s .first) (s .second) (s .both) (is-bound c cs d ds s ∙ e))
+
+  abbrev Length : List Cell → List Cell → List (Cell × Cell) → Type 0
+  Length cs ds ps = length (notesOf H (behind (H .delta) (takeWith n ti cs) (takeWith m ui ds))) + lone H ps ≡ length (notesOf H (takeWith n ti cs)) + length (notesOf H (takeWith m ui ds)) + length ps
+
+  apart-length : (cs ds : List Cell) → Lanes cs ds → Free H le (map (cellLater n) ds) cs → Length cs ds []
+  unfolding lone
+  apart-length cs ds s f =
+      rw (apart-notes H z le l (takeWith n ti cs) (takeWith m ui ds) (s .first) (s .second) (s .both) f) (simp (length-append, length-map) (omega arith))
+
+  length-cases : (cs ds : List Cell) → Lanes cs ds → Length cs ds (seamOf H n cs ds)
+  unfolding seamOf
+  length-cases [] ds s = apart-length [] ds s tt
+  length-cases (c ∷ cs) [] s = apart-length (c ∷ cs) [] s (unfold boundNext in refl)
+  length-cases (c ∷ cs) (d ∷ ds) s = go (boundAt H n (lastOr c cs) d) refl
+    where
+      go : (b : Bool) → boundAt H n (lastOr c cs) d ≡ b → Length (c ∷ cs) (d ∷ ds) (consIf b (lastOr c cs, d) [])
+      go true e = let k = (over-law c cs d ds s e) .length-is in unfold lone in omega arith
+      go false e = apart-length (c ∷ cs) (d ∷ ds) s (is-bound c cs d ds s ∙ e)
 
 -- the notes of two takes of one lane, one behind the other
 pub lane-join : (H : Header) → 0 < H .delta → H .epsilon ≤ H .delta → (l : ℕ) (t u : Take) → OneLane (H .delta) l t → OneLane (H .delta) l u
     → OneLane (H .delta) l (behind (H .delta) t u) → notesOf H (behind (H .delta) t u) ≡ joinLane H (t .beats) (notesOf H t) (t .cells) (notesOf H u) (u .cells)
 lane-join H z le l t u p q w = lane-cases H z le l (t .beats) (t .inner) (u .beats) (u .inner) (t .cells) (u .cells) (record { first = p; second = q; both = w })
+
+-- how many there are: one more where a note goes over the line, and one less for each of its two cells there that stands alone
+pub lane-length : (H : Header) → 0 < H .delta → H .epsilon ≤ H .delta → (l : ℕ) (t u : Take) → OneLane (H .delta) l t → OneLane (H .delta) l u
+    → OneLane (H .delta) l (behind (H .delta) t u) → length (notesOf H (behind (H .delta) t u)) + lone H (seamOf H (t .beats) (t .cells) (u .cells)) ≡ length (notesOf H t) + length (notesOf H u) + length (seamOf H (t .beats) (t .cells) (u .cells))
+lane-length H z le l t u p q w = length-cases H z le l (t .beats) (t .inner) (u .beats) (u .inner) (t .cells) (u .cells) (record { first = p; second = q; both = w })

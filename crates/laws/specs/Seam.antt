@@ -9,6 +9,7 @@ use native.Mathlib.Omega.{arith}
 use lib.Dec.{eqb}
 use borrow.Author.Tests.{eq-eqb, eqb-true, ne-eqb}
 use Rattle.model.specs.Binding.{bound, boundNext, endOf, meet, opening, standsAlone, startOf}
+use Rattle.model.specs.Lists.{consIf}
 use Rattle.model.specs.declared.Cell.{Cell}
 use Rattle.model.specs.declared.Header.{Header}
 use Rattle.model.specs.declared.Note.{Note}
@@ -89,6 +90,24 @@ joinLane H k ms [] ns ds = joinApart (k * H .delta) ms ns
 joinLane H k ms (c ∷ cs) ns [] = joinApart (k * H .delta) ms ns
 joinLane H k ms (c ∷ cs) ns (d ∷ ds) =
     cond (boundAt H k (lastOr c cs) d) (joinOver H (k * H .delta) (lastOr c cs) d ms ns) (joinApart (k * H .delta) ms ns)
+
+-- The lane's two cells that are bound over the line, if it has them.
+unfoldable pub seamOf : Header → ℕ → List Cell → List Cell → List (Cell × Cell)
+unfolding boundAt
+seamOf H k [] ds = []
+seamOf H k (c ∷ cs) [] = []
+seamOf H k (c ∷ cs) (d ∷ ds) = consIf (boundAt H k (lastOr c cs) d) (lastOr c cs, d) []
+
+-- 1 if the test passed.
+abbrev pub one : Bool → ℕ
+one true = 1
+one false = 0
+
+-- How many of such cells stand alone.
+unfoldable pub lone : Header → List (Cell × Cell) → ℕ
+unfolding standsAlone
+lone H [] = 0
+lone H (p ∷ ps) = one (standsAlone H (p .0)) + one (standsAlone H (p .1)) + lone H ps
 
 -- ---- the cells on the line
 
