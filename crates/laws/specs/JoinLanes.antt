@@ -36,7 +36,7 @@ inner-later δ beats k [] a = refl
 inner-later δ beats k (n ∷ ns) a = let v : n .start < n .end = a .0 .order in ap₂ _∷_ (later-note δ n (omega arith) k) (inner-later δ beats k ns (a .1))
 
 -- a lane of the join is the second's lane behind the first's
-join-lane-is : (δ : ℕ) (t u : Take) → Solid δ u → (l : ℕ) → l < 2048 → laneOf l (joinTakes δ t u) ≡ behind δ (laneOf l t) (laneOf l u)
+pub join-lane-is : (δ : ℕ) (t u : Take) → Solid δ u → (l : ℕ) → l < 2048 → laneOf l (joinTakes δ t u) ≡ behind δ (laneOf l t) (laneOf l u)
 unfolding joinTakes laterBy
 join-lane-is δ t u r l b = λ i. record { beats = t .beats + u .beats; inner = inners i; cells = cells i }
   where

@@ -94,7 +94,7 @@ module _ {A : Type 0} (lane : A → ℕ) where
       go false e ih = record { sorted = f .sorted; above = higher l x xs f (λ h. true≢false (sym (eq-eqb (lane x) l h) ∙ e)); below = f .below }
 
   -- a higher lane is as it was
-  keep-rest : (l m : ℕ) (xs : List A) → l < m → keep (λ x. eqb (lane x) m) (restOf l xs) ≡ keep (λ x. eqb (lane x) m) xs
+  pub keep-rest : (l m : ℕ) (xs : List A) → l < m → keep (λ x. eqb (lane x) m) (restOf l xs) ≡ keep (λ x. eqb (lane x) m) xs
   unfolding restOf
   keep-rest l m [] h = refl
   keep-rest l m (x ∷ xs) h = go (eqb (lane x) l) refl (keep-rest l m xs h)
@@ -104,7 +104,7 @@ module _ {A : Type 0} (lane : A → ℕ) where
       go true e ih = let i : lane x ≡ l = eqb-true (lane x) l e in rw (ne-eqb (lane x) m (omega arith)) ih
       go false e ih = refl
 
-  below-none : (l m : ℕ) (xs : List A) → m < l → From l xs → keep (λ x. eqb (lane x) m) xs ≡ []
+  pub below-none : (l m : ℕ) (xs : List A) → m < l → From l xs → keep (λ x. eqb (lane x) m) xs ≡ []
   below-none l m xs h f = none-at m xs (all-imp (λ y. l ≤ lane y) (λ y. suc m ≤ lane y) xs (λ y a. omega arith) (f .above))
 
 -- The notes of lane l in front and those behind them; and the cells.
@@ -121,7 +121,7 @@ abbrev pub cellRest : ℕ → List Cell → List Cell
 cellRest = restOf (λ c. c .lane)
 
 -- over counted numbers: nothing before l, at l what the one has, behind l what the other has
-gather-first : {B : Type 0} (f g : ℕ → List B) (n i l : ℕ) → i ≤ l → l < i + n → ((k : ℕ) → k < l → f k ≡ []) → ((k : ℕ) → k ≤ l → g k ≡ [])
+pub gather-first : {B : Type 0} (f g : ℕ → List B) (n i l : ℕ) → i ≤ l → l < i + n → ((k : ℕ) → k < l → f k ≡ []) → ((k : ℕ) → k ≤ l → g k ≡ [])
     → ((k : ℕ) → l < k → f k ≡ g k) → gather f (countFrom n i) ≡ f l ++ gather g (countFrom n i)
 gather-first f g zero i l a b p q r = absurd (omega arith)
 gather-first f g (suc n) i l a b p q r = elim (ℕ-discrete i l) [

@@ -48,3 +48,4 @@ pub mod Seam
 pub mod Joined
 pub mod JoinLanes
 pub mod JoinWalk
+pub mod JoinCount
