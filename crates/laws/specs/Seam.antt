@@ -109,6 +109,19 @@ unfolding standsAlone
 lone H [] = 0
 lone H (p ∷ ps) = one (standsAlone H (p .0)) + one (standsAlone H (p .1)) + lone H ps
 
+-- The last of the notes ends at tick s, and the first starts at tick 0.
+pub record EndsAt (s : ℕ) (ns : List Note) : Type 0 where
+  pub front : List Note
+  pub note : Note
+  pub notes-are : ns ≡ front ++ note ∷ []
+  pub end-is : note .end ≡ s
+
+pub record StartsAt0 (ns : List Note) : Type 0 where
+  pub note : Note
+  pub rest : List Note
+  pub notes-are : ns ≡ note ∷ rest
+  pub start-is : note .start ≡ 0
+
 -- ---- the cells on the line
 
 module _ (H : Header) (k : ℕ) (c d : Cell) where
@@ -158,6 +171,17 @@ module _ (H : Header) (k : ℕ) (c d : Cell) where
         opens = eqb-true (d .side) 0 (and-right (x && p) y e3);
         first-beat = eqb-true (d .beat) 0 (and-right (x && p && y) q e4);
       }
+
+  -- c's piece ends at the line between the takes, and d's starts at the second's opening line
+  pub line-end : AtLine → endOf (H .delta) c ≡ k * H .delta
+  unfolding endOf
+  line-end a = let s = a .closes in rw (ne-eqb (c .side) 0 (omega arith)) (ap (λ (b : ℕ). b * (H .delta)) (a .last-beat))
+
+  pub line-start : AtLine → startOf (H .delta) d ≡ 0
+  unfolding startOf
+  line-start a =
+      let m : d .beat * (H .delta) ≡ 0 * (H .delta) = ap (λ (b : ℕ). b * (H .delta)) (a .first-beat) in
+      rw (eq-eqb (d .side) 0 (a .opens)) (omega arith)
 
   -- the cells' own pieces are the notes up to the line, and from it on
   pub own-ending : AtLine → own (H .delta) c ≡ endingAt (k * H .delta) c
