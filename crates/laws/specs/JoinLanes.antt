@@ -1,15 +1,15 @@
 -- The notes of a join of two solid takes: lane by lane, and by one walk over the notes and cells of both.
 -- Assumes nothing.
-use mathlib.Core.Bool.{Bool, cond, false, true}
+use mathlib.Core.Bool.{true}
 use mathlib.Core.List.{List, [], _++_, _∷_, map}
 use mathlib.Core.Path.{_∙_, _≡_, ap, ap₂, refl, subst, sym}
-use Prim.Native.Nat.{_*_, _+_, _<_, _≤_, suc, zero, ℕ}
+use Prim.Native.Nat.{_*_, _+_, _<_, _≤_, ℕ}
 use native.Mathlib.Omega.{arith}
 use lib.Dec.{eqb}
 use Rattle.model.specs.Binding.{standsAlone}
-use Rattle.model.specs.Lists.{countFrom, gather, keep}
+use Rattle.model.specs.Lists.{gather}
 use Rattle.model.specs.Pieces.{firstBeat}
-use Rattle.model.specs.Takes.{Take, cellTo, joinTakes, lanes, laterBy, noteTo, notesOf}
+use Rattle.model.specs.Takes.{Take, joinTakes, lanes, laterBy, noteTo, notesOf}
 use Rattle.model.specs.declared.Cell.{Cell}
 use Rattle.model.specs.declared.Header.{Header}
 use Rattle.model.specs.declared.Note.{Note}

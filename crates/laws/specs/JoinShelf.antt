@@ -2,12 +2,12 @@
 -- Assumes nothing.
 use mathlib.Core.Bool.{true}
 use mathlib.Core.List.{List, [], _++_, map}
-use mathlib.Core.Path.{_∙_, _≡_, ap, ap₂, refl, sym}
-use Prim.Native.Nat.{_+_, _<_, _≤_, min, suc, ℕ}
+use mathlib.Core.Path.{_∙_, _≡_, ap, ap₂, refl}
+use Prim.Native.Nat.{_+_, _<_, _≤_, min, ℕ}
 use native.Mathlib.Omega.{arith}
 use lib.Dec.{eqb}
 use lib.ListN.{length}
-use Rattle.model.specs.Lists.{gather, keep}
+use Rattle.model.specs.Lists.{gather}
 use Rattle.model.specs.Soundness.{soundShelf}
 use Rattle.model.specs.Takes.{Take, byLane, cellsIn, joinTakes, lanes, laterBy, notesIn, notesOf, takeIn, word}
 use Rattle.model.specs.declared.Cell.{Cell}
@@ -15,8 +15,8 @@ use Rattle.model.specs.declared.Header.{Header}
 use Rattle.model.specs.declared.Note.{Note}
 use Rattle.laws.specs.JoinCount.{join-length, join-room, seams}
 use Rattle.laws.specs.JoinLanes.{join-notes, joinLanes}
-use Rattle.laws.specs.JoinWalk.{Four, From, below-none, cellRest, cellRun, gather-first, join-four, join-walk, joinFrom, keep-rest, keep-run, rest-from, restOf, runOf}
-use Rattle.laws.specs.Lists.{gather-none, gather-same, keep-append, keep-map}
+use Rattle.laws.specs.JoinWalk.{Four, From, cellRest, cellRun, each-none, each-step, join-four, join-walk, joinFrom, only-cells}
+use Rattle.laws.specs.Lists.{gather-same, keep-append, keep-map}
 use Rattle.laws.specs.Seam.{lone}
 use Rattle.laws.specs.SeamLanes.{cellsAt}
 use Rattle.laws.specs.SeamWalk.{cellLater}
@@ -36,29 +36,16 @@ cells-lanes δ t u =
     ∙ ap (_++_ (cellsAt l (t .cells))) (keep-map (λ c. eqb (c .lane) l) (cellLater (t .beats)) (u .cells)))
 
 module _ (k : ℕ) where
-  cells-same : {cs ds es fs : List Cell} → cs ≡ es → ds ≡ fs → cs ++ map (cellLater k) ds ≡ es ++ map (cellLater k) fs
-  cells-same a b = λ i. a i ++ map (cellLater k) (b i)
-
   -- nothing of nothing
   pub cells-none : joinCells k [] [] ≡ []
   unfolding joinCells
-  cells-none = gather-none (λ l. []) 2048 0 (λ l a. refl)
+  cells-none = each-none (λ ms cs ns ds. cs ++ map (cellLater k) ds) refl
 
   -- the cells are those of lane l in front, and then those of what stands behind it
   pub cells-step : (l : ℕ) (cs ds : List Cell) → l < 2048 → From (λ c. c .lane) l cs → From (λ c. c .lane) l ds
       → joinCells k cs ds ≡ cellRun l cs ++ map (cellLater k) (cellRun l ds) ++ joinCells k (cellRest l cs) (cellRest l ds)
   unfolding joinCells
-  cells-step l cs ds b f g =
-      gather-first (λ m. cellsAt m cs ++ map (cellLater k) (cellsAt m ds)) later-at 2048 0 l (omega arith) (omega arith)
-      (λ m h. cells-same (below-none (λ c. c .lane) l m cs h f) (below-none (λ c. c .lane) l m ds h g))
-      (λ m h. cells-same
-      (below-none (λ c. c .lane) (suc l) m (cellRest l cs) (omega arith) (rest-from (λ c. c .lane) l cs f))
-      (below-none (λ c. c .lane) (suc l) m (cellRest l ds) (omega arith) (rest-from (λ c. c .lane) l ds g)))
-      (λ m h. sym (cells-same (keep-rest (λ c. c .lane) l m cs h) (keep-rest (λ c. c .lane) l m ds h)))
-      ∙ ap (λ (es : List Cell). es ++ gather later-at lanes) (cells-same (keep-run (λ c. c .lane) l cs f) (keep-run (λ c. c .lane) l ds g))
-    where
-      later-at : ℕ → List Cell
-      later-at m = cellsAt m (cellRest l cs) ++ map (cellLater k) (cellsAt m (cellRest l ds))
+  cells-step l cs ds b f g = each-step (λ ms cs ns ds. cs ++ map (cellLater k) ds) refl l [] cs [] ds b (only-cells l cs ds f g)
 
 -- ---- two sound shelves
 

@@ -1,15 +1,15 @@
 -- The notes of a join of two solid takes, lane by lane: those of both, and at the seam what the binding rules decide.
 -- Assumes nothing.
-use mathlib.Core.Bool.{Bool, cond, false, true, true≢false}
+use mathlib.Core.Bool.{Bool, false, true}
 use mathlib.Core.List.{List, [], _++_, _∷_, append-nil, map}
-use mathlib.Core.Path.{_∙_, _≡_, ap, ap₂, refl, subst, sym}
-use Prim.Native.Nat.{_*_, _+_, _-_, _<_, _≤_, suc, ℕ}
+use mathlib.Core.Path.{_∙_, _≡_, ap, ap₂, refl, sym}
+use Prim.Native.Nat.{_*_, _+_, _<_, _≤_, suc, ℕ}
 use native.Mathlib.Omega.{arith}
 use lib.ListN.{length, length-append}
 use borrow.Author.Tests.{eq-eqb, ne-eqb}
 use Rattle.model.specs.Binding.{boundNext, lineNotes, standsAlone}
-use Rattle.model.specs.Lists.{consIf, gather, keep}
-use Rattle.model.specs.Takes.{Take, joinTakes, merge, notesOf}
+use Rattle.model.specs.Lists.{consIf}
+use Rattle.model.specs.Takes.{Take, merge, notesOf}
 use Rattle.model.specs.declared.Cell.{Cell}
 use Rattle.model.specs.declared.Header.{Header}
 use Rattle.model.specs.declared.Note.{Note}
@@ -20,10 +20,9 @@ use Rattle.laws.specs.Notes.{Away, Before, Fair, Follow, Long, above, be
 use Rattle.laws.specs.Order.{aways, walk-fair}
 use Rattle.laws.specs.Partners.{all-parts}
 use Rattle.laws.specs.Relations.{All, all-consIf, all-imp}
-use Rattle.laws.specs.Rules.{own}
-use Rattle.laws.specs.Seam.{AtLine, EndsAt, StartsAt0, at-line, bound-at, boundAt, butFirst, butLast, butLast-append, endingAt, firstOr, fromOn, joinApart, joinLane, joinOver, last-all, last-append, line-end, line-start, lone, one, own-ending, own-starting, seamOf, startingAt0, upTo}
+use Rattle.laws.specs.Seam.{AtLine, EndsAt, StartsAt0, at-line, bound-at, boundAt, butLast-append, endingAt, joinApart, joinLane, joinOver, last-append, line-end, line-start, lone, one, own-ending, own-starting, seamOf, startingAt0}
 use Rattle.laws.specs.SeamLanes.{AllBefore, CellsOn, NotesOn, merge-apart, merge-later, notes-walk, walk-lane}
-use Rattle.laws.specs.SeamWalk.{Free, Goes, Opened, cellLater, lastOr, noteLater, opened, walk-bound, walk-free, walk-later}
+use Rattle.laws.specs.SeamWalk.{Free, Goes, Opened, cellLater, last-all, lastOr, noteLater, opened, walk-bound, walk-free, walk-later}
 use Rattle.laws.specs.Solid.{Fine, Solid}
 use Rattle.laws.specs.Walk.{line-walk, walk}
 

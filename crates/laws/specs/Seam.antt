@@ -3,12 +3,12 @@
 use mathlib.Core.Bool.{Bool, _&&_, cond, false, true}
 use mathlib.Core.List.{List, [], _++_, _∷_, map}
 use mathlib.Core.Path.{_≡_, ap, refl}
-use Prim.Native.Nat.{_*_, _+_, _-_, _<_, _≤_, suc, ℕ}
+use Prim.Native.Nat.{_*_, _+_, _-_, _<_, suc, ℕ}
 use native.Mathlib.Decide.{ℕ-discrete}
 use native.Mathlib.Omega.{arith}
 use lib.Dec.{eqb}
 use borrow.Author.Tests.{eq-eqb, eqb-true, ne-eqb}
-use Rattle.model.specs.Binding.{bound, boundNext, endOf, meet, opening, standsAlone, startOf}
+use Rattle.model.specs.Binding.{bound, boundNext, endOf, meet, standsAlone, startOf}
 use Rattle.model.specs.Lists.{consIf}
 use Rattle.model.specs.declared.Cell.{Cell}
 use Rattle.model.specs.declared.Header.{Header}
@@ -16,7 +16,6 @@ use Rattle.model.specs.declared.Note.{Note}
 use Rattle.laws.specs.Booleans.{and-left, and-right}
 use Rattle.laws.specs.CutLines.{joined}
 use Rattle.laws.specs.Notes.{note-same}
-use Rattle.laws.specs.Relations.{All}
 use Rattle.laws.specs.Rules.{moved-bound, own}
 use Rattle.laws.specs.SeamWalk.{cellLater, lastOr, noteLater}
 
@@ -46,11 +45,6 @@ module _ {A : Type 0} where
   butLast-append [] x = refl
   butLast-append (y ∷ []) x = refl
   butLast-append (y ∷ w ∷ ws) x = rw (butLast-append (w ∷ ws) x)
-
-  -- what holds of all holds of the last
-  pub last-all : (P : A → Type 0) (x : A) (xs : List A) → All P (x ∷ xs) → P (lastOr x xs)
-  last-all P x [] a = a .0
-  last-all P x (y ∷ ys) a = last-all P y ys (a .1)
 
 -- ---- one lane
 

@@ -7,7 +7,7 @@ use Prim.Native.Nat.{_*_, _+_, _-_, _<_, _≤_, suc, ℕ}
 use native.Mathlib.Decide.{ℕ-discrete}
 use native.Mathlib.Nat.{add-mul}
 use native.Mathlib.Omega.{arith}
-use lib.Dec.{eqb, leb}
+use lib.Dec.{eqb}
 use borrow.Author.Tests.{eq-eqb, eqb-true, leb-false, ne-eqb}
 use Rattle.model.specs.Binding.{bound, boundNext, endOf, fills, goOn, meet, opening, standsAlone, startOf}
 use Rattle.model.specs.Lists.{consIf}
@@ -19,6 +19,7 @@ use Rattle.model.specs.declared.Note.{Note}
 use Rattle.laws.specs.Booleans.{and-left, or-false, or-right}
 use Rattle.laws.specs.CutLines.{joined, put}
 use Rattle.laws.specs.Notes.{note-same}
+use Rattle.laws.specs.Relations.{All}
 use Rattle.laws.specs.Rules.{Pair, Pieced, double, fill-close-alone, fill-open-alone, meet-open, moved-alone, moved-bound, open-free, own, pair-close, pair-filled, pair-fills, pair-open, single, span, stop}
 use Rattle.laws.specs.Walk.{walk, walk-double, walk-single}
 
@@ -119,6 +120,11 @@ module _ {A : Type 0} where
   abbrev pub lastOr : A → List A → A
   lastOr d [] = d
   lastOr d (x ∷ xs) = lastOr x xs
+
+  -- what holds of all holds of the last
+  pub last-all : (P : A → Type 0) (x : A) (xs : List A) → All P (x ∷ xs) → P (lastOr x xs)
+  last-all P x [] a = a .0
+  last-all P x (y ∷ ys) a = last-all P y ys (a .1)
 
 -- The first cell opens its beat.
 abbrev Opening : List Cell → Type 0
