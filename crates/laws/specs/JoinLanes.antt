@@ -1,4 +1,4 @@
--- The notes of a join of two solid takes: lane by lane, and by one walk over the notes and cells of both.
+-- The notes of a join of two solid takes, lane by lane. By one walk over the notes and cells of both: JoinWalk.
 -- Assumes nothing.
 use mathlib.Core.Bool.{true}
 use mathlib.Core.List.{List, [], _++_, _∷_, map}

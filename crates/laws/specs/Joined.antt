@@ -1,4 +1,4 @@
--- The notes of a join of two solid takes, lane by lane: those of both, and at the seam what the binding rules decide.
+-- The notes of two solid takes of one lane, one behind the other: those of both, and on the line between them what the binding rules decide.
 -- Assumes nothing.
 use mathlib.Core.Bool.{Bool, false, true}
 use mathlib.Core.List.{List, [], _++_, _∷_, append-nil, map}

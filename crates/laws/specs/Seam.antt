@@ -1,4 +1,5 @@
--- What a join does with the notes of one lane: it copies them, and at the seam the binding rules decide. That it is so: Joined.
+-- What a join does with the notes of one lane: it copies them, and only on the line between the takes the binding rules decide. That it is so:
+-- Joined for one lane, JoinLanes for all.
 -- Assumes nothing.
 use mathlib.Core.Bool.{Bool, _&&_, cond, false, true}
 use mathlib.Core.List.{List, [], _++_, _∷_, map}
