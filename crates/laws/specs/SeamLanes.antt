@@ -1,15 +1,13 @@
 -- A solid take lane by lane: its notes are those of the takes that its single lanes are. Merging by parts, and some ticks later.
 -- Assumes nothing.
-use mathlib.Core.Bool.{Bool, _||_, cond, false, true}
-use mathlib.Core.List.{List, [], _++_, _∷_, append-nil, map}
-use mathlib.Core.Logic.{_≢_}
+use mathlib.Core.Bool.{Bool, _||_, false, true}
+use mathlib.Core.List.{List, [], _++_, _∷_, map}
 use mathlib.Core.Path.{_∙_, _≡_, ap, ap₂, refl, sym}
 use Prim.Native.Nat.{_+_, _<_, _≤_, suc, zero, ℕ}
-use native.Mathlib.Decide.{ℕ-discrete}
 use native.Mathlib.Omega.{arith}
-use lib.Dec.{eqb, leb, ltb}
+use lib.Dec.{eqb, leb}
 use borrow.Author.Tests.{eq-eqb, eqb-true, le-leb, leb-true, lt-leb, leb-false, ne-eqb}
-use Rattle.model.specs.Binding.{bound, boundNext, lineNotes, meet, standsAlone}
+use Rattle.model.specs.Binding.{boundNext, meet, standsAlone}
 use Rattle.model.specs.Lists.{countFrom, gather, keep}
 use Rattle.model.specs.Pieces.{firstBeat, inside}
 use Rattle.model.specs.Takes.{Take, cellTo, lanes, merge, noteBefore, noteTo, notesOf, weave}
@@ -23,9 +21,9 @@ use Rattle.laws.specs.Merging.{all-merge, merge-first}
 use Rattle.laws.specs.Notes.{Before, Fair, Follow, Long, above, before}
 use Rattle.laws.specs.OneNote.{pieced-keep}
 use Rattle.laws.specs.Order.{walk-fair}
-use Rattle.laws.specs.Relations.{All, Pairs, all-all, all-count, all-imp, all-keep, all-kept, keep-no, keep-yes, pairs-keep}
+use Rattle.laws.specs.Relations.{All, all-count, all-imp, all-keep, all-kept, keep-no, keep-yes, pairs-keep}
 use Rattle.laws.specs.Rules.{Pieced, own}
-use Rattle.laws.specs.SeamWalk.{Free, lastOr, noteLater, walk-free}
+use Rattle.laws.specs.SeamWalk.{Free, last-all, lastOr, noteLater, walk-free}
 use Rattle.laws.specs.Solid.{Apart, Clear, Fine, Solid}
 use Rattle.laws.specs.Tidy.{cells-tidy, notes-tidy, tidy-lanes}
 use Rattle.laws.specs.Walk.{line-walk, linked, walk}
@@ -130,13 +128,9 @@ module _ (H : Header) (le : (H .epsilon) ≤ (H .delta)) (f : ℕ → List Cell)
   lanes-free i c [] e a = refl
   lanes-free i c (d ∷ ds) e a = let h : i < d .lane = a .0 in rw (ne-eqb (c .lane) (d .lane) (omega arith))
 
-  last-lane : (i : ℕ) (c : Cell) (cs : List Cell) → CellsOn i (c ∷ cs) → (lastOr c cs) .lane ≡ i
-  last-lane i c [] a = a .0
-  last-lane i c (d ∷ ds) a = last-lane i d ds (a .1)
-
   free-lanes : (i : ℕ) (cs ds : List Cell) → CellsOn i cs → All (λ d. i < d .lane) ds → Free H le ds cs
   free-lanes i [] ds a b = tt
-  free-lanes i (c ∷ cs) ds a b = lanes-free i (lastOr c cs) ds (last-lane i c cs a) b
+  free-lanes i (c ∷ cs) ds a b = lanes-free i (lastOr c cs) ds (last-all (λ x. x .lane ≡ i) c cs a) b
 
   walk-lanes : (n i : ℕ) → walk H false (gather f (countFrom n i)) ≡ gather (λ l. walk H false (f l)) (countFrom n i)
   walk-lanes zero i = unfold walk in refl
