@@ -103,13 +103,13 @@ module _ (H : Header) (z : 0 < (H .delta)) (le : (H .epsilon) ≤ (H .delta)) (p
   no-meet c d e (beat-up a r) (side-up x y u v w) s l o b = omega arith
   no-meet c d e (side-up a r t f g) x s l o b = omega arith
 
-  record Meets (c e : Cell) : Type 0 where
-    lanes-meet : c .lane ≡ e .lane
-    closes-it : c .side ≡ 1
-    opens-it : e .side ≡ 0
-    next-beat : e .beat ≡ suc (c .beat)
+  pub record Meets (c e : Cell) : Type 0 where
+    pub lanes-meet : c .lane ≡ e .lane
+    pub closes-it : c .side ≡ 1
+    pub opens-it : e .side ≡ 0
+    pub next-beat : e .beat ≡ suc (c .beat)
 
-  meets : (c d : Cell) → meet c d ≡ true → Meets c d
+  pub meets : (c d : Cell) → meet c d ≡ true → Meets c d
   unfolding meet
   meets c d m =
       let a = eqb (c .lane) (d .lane) in
@@ -125,7 +125,7 @@ module _ (H : Header) (z : 0 < (H .delta)) (le : (H .epsilon) ≤ (H .delta)) (p
         next-beat = eqb-true (d .beat) (suc (c .beat)) (and-right (a && b && e) f m);
       }
 
-  no-skip : (c d : Cell) (es : List Cell) → Apart (H .delta) c d → All (Apart (H .delta) d) es → boundNext H c es ≡ true → ⊥
+  pub no-skip : (c d : Cell) (es : List Cell) → Apart (H .delta) c d → All (Apart (H .delta) d) es → boundNext H c es ≡ true → ⊥
   unfolding boundNext
   no-skip c d [] a b e = true≢false (sym e)
   no-skip c d (x ∷ es) a b e =
@@ -280,7 +280,7 @@ module _ (H : Header) (k : ℕ) where
   bound-back c [] a b = refl
   bound-back c (d ∷ ds) a b = ap₂ _&&_ (meet-back c d a (b .0)) (moved-bound H (c .beat - k) (d .beat - k) c d)
 
-  link-back : (c : Cell) (cs : List Cell) → k ≤ c .beat → All (λ d. k ≤ d .beat) cs → linked H (back c) (map back cs) ≡ linked H c cs
+  pub link-back : (c : Cell) (cs : List Cell) → k ≤ c .beat → All (λ d. k ≤ d .beat) cs → linked H (back c) (map back cs) ≡ linked H c cs
   unfolding linked fills
   link-back c cs a b = ap (λ (t : Bool). fills (H .delta) c || t) (bound-back c cs a b)
 

@@ -37,3 +37,8 @@ pub mod Reached
 pub mod Sweep
 pub mod Linear
 pub mod Joining
+pub mod CutMerge
+pub mod CutLines
+pub mod Cutting
+pub mod CutSides
+pub mod Halves

@@ -51,6 +51,12 @@ module _ {A B : Type 0} where
   keep-map p f [] = refl
   keep-map p f (x ∷ xs) = ap (consIf (p (f x)) (f x)) (keep-map p f xs) ∙ sym (map-consIf f (p (f x)) x (keep (λ x. p (f x)) xs))
 
+  -- what passes, changed, by one pass
+  pub map-keep : (p : A → Bool) (f : A → B) (xs : List A) → map f (keep p xs) ≡ gather (λ x. consIf (p x) (f x) []) xs
+  map-keep p f [] = refl
+  map-keep p f (x ∷ xs) =
+      map-consIf f (p x) x (keep p xs) ∙ ap (consIf (p x) (f x)) (map-keep p f xs) ∙ sym (consIf-append (p x) (f x) [] (gather (λ x. consIf (p x) (f x) []) xs))
+
   pub map-append : (f : A → B) (xs ys : List A) → map f (xs ++ ys) ≡ map f xs ++ map f ys
   map-append f [] ys = refl
   map-append f (x ∷ xs) ys = ap (_∷_ (f x)) (map-append f xs ys)

@@ -63,11 +63,11 @@ unfolding merge
 all-merge P [] ys a b = b
 all-merge P (x ∷ xs) ys a b = all-weave P x (λ zs. merge xs zs) (a .0) (λ zs c. all-merge P xs zs (a .1) c) ys b
 
-first-of : (x y : Note) → Long x → Long y → Away x y → noteBefore x y ≡ true → Follow x y
+pub first-of : (x y : Note) → Long x → Long y → Away x y → noteBefore x y ≡ true → Follow x y
 first-of x y v w (left f) e = f
 first-of x y v w (right f) e = absurd (true≢false (sym e ∙ (before y x w f) .1))
 
-second-of : (x y : Note) → Long x → Long y → Away x y → noteBefore x y ≡ false → Follow y x
+pub second-of : (x y : Note) → Long x → Long y → Away x y → noteBefore x y ≡ false → Follow y x
 second-of x y v w (right f) e = f
 second-of x y v w (left f) e = absurd (true≢false (sym ((before x y v f) .0) ∙ e))
 

@@ -180,6 +180,11 @@ module _ (H : Header) (beats : ℕ) (z : 0 < (H .delta)) where
       (follow-first (span (H .delta) c d) on-it cs (walk H on-it cs) ih (gap-double c d cs q (k .0) (k .1 .1) p (a .1 .0)))
       (outs-fair on-it cs (walk H on-it cs) ih) (outs-pairs on-it cs (walk H on-it cs) ih) (λ e. rw (← (q .lane-same)) (bound-begins d cs (walk H on-it cs) ih e)))
 
+  -- the walk's notes are in range
+  pub walk-fair : {cs : List Cell} → Pieced (H .delta) cs → All (Fine (H .delta) beats) cs → Pairs (Apart (H .delta)) cs → (held : Bool)
+      → All (Fair (H .delta) beats) (walk H held cs)
+  walk-fair {cs} p k a held = outs-fair held cs (walk H held cs) (outs p k a held)
+
   -- ---- an inner note lies away from the walk's notes
 
   module _ (n : Note) (v : n .start < n .end) (low : firstBeat (H .delta) n * (H .delta) ≤ n .start) (high : n .end ≤ suc (firstBeat (H .delta) n) * (H .delta)) where
@@ -203,12 +208,12 @@ module _ (H : Header) (z : 0 < (H .delta)) (le : (H .epsilon) ≤ (H .delta)) (t
   line-is = line-walk H le (s .cells-pieced)
 
   pub line-fair : All (Fair (H .delta) (t .beats)) (lineNotes H (t .cells))
-  line-fair = rw line-is (outs-fair H (t .beats) z false (t .cells) (walk H false (t .cells)) (outs H (t .beats) z (s .cells-pieced) (s .cells-fine) (s .cells-apart) false))
+  line-fair = rw line-is (walk-fair H (t .beats) z (s .cells-pieced) (s .cells-fine) (s .cells-apart) false)
 
   pub line-pairs : Pairs Follow (lineNotes H (t .cells))
   line-pairs = rw line-is (outs-pairs H (t .beats) z false (t .cells) (walk H false (t .cells)) (outs H (t .beats) z (s .cells-pieced) (s .cells-fine) (s .cells-apart) false))
 
-  aways : (ns : List Note) → All (Fair (H .delta) (t .beats)) ns → All (λ n. inside (H .delta) n ≡ true) ns
+  pub aways : (ns : List Note) → All (Fair (H .delta) (t .beats)) ns → All (λ n. inside (H .delta) n ≡ true) ns
       → All (λ n. All (Clear (H .delta) n) (t .cells)) ns → All (λ n. All (Away n) (lineNotes H (t .cells))) ns
   aways [] f i c = tt
   aways (n ∷ ns) f i c =
