@@ -3,3 +3,7 @@ pub mod Frames
 pub mod Counts
 pub mod Readings
 pub mod Checks
+pub mod WaysOut
+pub mod Layouts
+pub mod Lasts
+pub mod Chains

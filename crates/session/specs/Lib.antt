@@ -4,3 +4,5 @@ pub mod Reading
 pub mod Counting
 pub mod Listing
 pub mod Framing
+pub mod Running
+pub mod Checking

@@ -1,7 +1,8 @@
--- The note and the cell at a place of a list of words. Assumes nothing.
-use Prim.Native.Nat.{ℕ, _+_}
+-- The note and the cell at a place of a list of words, and the notes and cells up to a place. Assumes nothing.
+use Prim.Native.Nat.{ℕ, _+_, _*_, _-_}
 use mathlib.Core.List.{List}
-use Rattle.model.specs.Takes.{word}
+use lib.ListN.{drop}
+use Rattle.model.specs.Takes.{word, readNotes, readCells}
 use Rattle.model.specs.declared.Note.{Note}
 use Rattle.model.specs.declared.Cell.{Cell}
 
@@ -17,3 +18,12 @@ cellAt s at = record {
   after = word s (at + 4);
   velocity = word s (at + 5);
 }
+
+-- The last k notes, and the last k cells, of those that stand up to place `end`.
+unfoldable pub lastNotes : List ℕ → ℕ → ℕ → List Note
+unfolding readNotes
+lastNotes ws end k = readNotes k (drop (end - 4 * k) ws)
+
+unfoldable pub lastCells : List ℕ → ℕ → ℕ → List Cell
+unfolding readCells
+lastCells ws end k = readCells k (drop (end - 6 * k) ws)

@@ -1,0 +1,152 @@
+-- The rules for cells by what the code tests, one law for each way out. Assumes nothing.
+use mathlib.Core.Path.{_≡_, sym, _∙_}
+use mathlib.Core.Bool.{Bool, true, false, not, _&&_}
+use Prim.Native.Nat.{ℕ, suc, _+_, _*_, _-_, _/_, _≤_, _<_}
+use native.Mathlib.Nat.{mul-le-mul, div-mul-le-self, suc-mul}
+use native.Mathlib.Numerals.{add-one}
+use native.Mathlib.Omega.{arith}
+use lib.Dec.{leb, ltb, eqb}
+use borrow.Author.Tests.{eq-eqb, ne-eqb, lt-ltb, not-true, not-false}
+use Rattle.model.specs.Binding.{standsAlone, meet, bound, noneAlone, fills, startOf, endOf}
+use Rattle.model.specs.Pieces.{firstBeat, insideAt, inside}
+use Rattle.model.specs.Soundness.{cellInRange, memoryWithin, hasTicks, cellBefore, filled, partners}
+use Rattle.model.specs.declared.Header.{Header}
+use Rattle.model.specs.declared.Note.{Note}
+use Rattle.model.specs.declared.Cell.{Cell}
+use Rattle.laws.specs.Chain.{cellOk, neighbours, clear}
+use Rattle.session.specs.Checking.{gapOk}
+use Rattle.session.specs.Running.{noteOfRun, sameNote}
+
+-- a product of 32-bit numbers, the first of them or one more, fits 64 bits with a 32-bit number added
+pub product-fits : (a b : ℕ) → a ≤ 4294967296 → b ≤ 4294967295 → a * b ≤ 18446744069414584320
+product-fits a b p q = mul-le-mul p q
+
+-- ---- a test of two or three parts
+
+module _ (a b : Bool) {p : Bool} where
+  pub first-no : p ≡ a → not p ≡ true → false ≡ a && b
+  first-no e t = rw (← e, not-true p t)
+
+  pub second-is : p ≡ a → not p ≡ false → {q : Bool} → q ≡ b → q ≡ a && b
+  second-is e t f = rw (← e, not-false p t, ← f)
+
+  pub second-not : p ≡ a → not p ≡ false → {q : Bool} → q ≡ b → not q ≡ a && not b
+  second-not e t f = rw (← e, not-false p t, ← f)
+
+module _ (δ beats : ℕ) (c : Cell) {p : Bool} (e : p ≡ cellInRange beats c) where
+  pub range-no : not p ≡ true → false ≡ cellOk δ beats c
+  unfolding cellOk
+  range-no t = rw (← e, not-true p t)
+
+  module _ (t : not p ≡ false) {q : Bool} (f : q ≡ memoryWithin δ c) where
+    pub memory-no : not q ≡ true → false ≡ cellOk δ beats c
+    unfolding cellOk
+    memory-no u = rw (← e, not-false p t, ← f, not-true q u)
+
+    pub ticks-is : not q ≡ false → {r : Bool} → r ≡ hasTicks c → r ≡ cellOk δ beats c
+    unfolding cellOk
+    ticks-is u g = rw (← e, not-false p t, ← f, not-false q u, ← g)
+
+-- ---- two cells
+
+module _ (c d : Cell) where
+  pub by-beat : c .lane ≡ d .lane → c .side ≡ 1 → d .side ≡ 0 → eqb (d .beat) (c .beat + 1) ≡ meet c d
+  unfolding meet
+  by-beat e f g = rw (eq-eqb _ _ e, eq-eqb _ _ f, eq-eqb _ _ g, add-one)
+
+  module _ (h : Header) {p q : Bool} (e : p ≡ standsAlone h c) (f : q ≡ standsAlone h d) where
+    pub both-end : p ≡ true → q ≡ true → c .after ≡ 0 → false ≡ bound h c d
+    unfolding bound
+    both-end s t a = rw (← e, ← f, s, t, a)
+
+    pub both-go : p ≡ true → q ≡ true → (c .after ≡ 0 → ⊥) → ltb 0 (d .before) ≡ bound h c d
+    unfolding bound
+    both-go s t a = let l : 0 < c .after = omega arith in rw (← e, ← f, s, t, lt-ltb _ _ l)
+
+    pub one-left : p ≡ true → q ≡ false → true ≡ bound h c d
+    unfolding bound
+    one-left s t = rw (← e, ← f, s, t)
+
+    pub one-right : p ≡ false → q ≡ true → true ≡ bound h c d
+    unfolding bound
+    one-right s t = rw (← e, ← f, s, t)
+
+    pub neither : p ≡ false → q ≡ false → {r : Bool} → r ≡ noneAlone h c d → r ≡ bound h c d
+    unfolding bound
+    neither s t g = g ∙ rw (← e, ← f, s, t)
+
+  module _ (δ : ℕ) {p : Bool} (e : p ≡ cellBefore c d) where
+    pub order-no : not p ≡ true → false ≡ neighbours δ c d
+    unfolding neighbours
+    order-no t = rw (← e, not-true p t)
+
+    module _ (t : not p ≡ false) {q : Bool} (f : q ≡ fills δ c) where
+      pub first-fills : q ≡ true → {s : Bool} → s ≡ partners δ c d → s ≡ neighbours δ c d
+      unfolding neighbours
+      first-fills u g = rw (← e, not-false p t, ← f, u, ← g)
+
+      module _ (u : q ≡ false) {r : Bool} (g : r ≡ filled δ d) where
+        pub second-filled : r ≡ true → {s : Bool} → s ≡ partners δ c d → s ≡ neighbours δ c d
+        unfolding neighbours
+        second-filled v k = rw (← e, not-false p t, ← f, u, ← g, v, ← k)
+
+        pub by-gap : r ≡ false → {s : Bool} → s ≡ gapOk δ c d → s ≡ neighbours δ c d
+        unfolding neighbours gapOk
+        by-gap v k = k ∙ rw (← e, not-false p t, ← f, u, ← g, v)
+
+-- ---- where a piece lies
+
+module _ (δ : ℕ) (c : Cell) where
+  pub start-close : (c .side ≡ 0 → ⊥) → (c .beat + 1) * δ - c .before ≡ startOf δ c
+  unfolding startOf
+  start-close e = rw (ne-eqb _ _ e, add-one)
+
+  pub start-zero : (c .side ≡ 0 → ⊥) → (c .beat + 1) * δ ≤ c .before → 0 ≡ startOf δ c
+  start-zero e h = let z : 0 ≡ (c .beat + 1) * δ - c .before = omega arith in z ∙ start-close e
+
+  pub end-close : (c .side ≡ 0 → ⊥) → (c .beat + 1) * δ ≡ endOf δ c
+  unfolding endOf
+  end-close e = rw (ne-eqb _ _ e, add-one)
+
+module _ (δ : ℕ) (n : Note) where
+  pub inside-end : n .start / δ * δ < n .start → ltb (n .end) (n .start / δ * δ + δ) ≡ inside δ n
+  unfolding insideAt
+  inside-end l =
+      let e : n .start / δ * δ + δ ≡ suc (n .start / δ) * δ = omega (arith, suc-mul (n .start / δ) δ) in
+      rw (lt-ltb _ _ l, e)
+
+  -- the note's beat is the cell's, or not
+  module _ (c : Cell) {b : ℕ} (is : b ≡ firstBeat δ n) where
+    pub other-beat : n .lane ≡ c .lane → (b ≡ c .beat → ⊥) → true ≡ clear δ n c
+    unfolding clear
+    other-beat l o = rw (eq-eqb _ _ l, ne-eqb (firstBeat δ n) (c .beat) (λ e. o (is ∙ e)))
+
+    pub opening-clear : n .lane ≡ c .lane → b ≡ c .beat → c .side ≡ 0 → leb (b * δ + c .after) (n .start) ≡ clear δ n c
+    unfolding clear
+    opening-clear l o s = rw (eq-eqb _ _ l, eq-eqb (firstBeat δ n) (c .beat) (sym is ∙ o), eq-eqb _ _ s, o)
+
+    pub closing-clear : n .lane ≡ c .lane → b ≡ c .beat → (c .side ≡ 0 → ⊥) → leb (n .end + c .before) (b * δ + δ) ≡ clear δ n c
+    unfolding clear
+    closing-clear l o s =
+        let e : c .beat * δ + δ ≡ suc (c .beat) * δ = omega (arith, suc-mul (c .beat) δ) in
+        rw (eq-eqb _ _ l, eq-eqb (firstBeat δ n) (c .beat) (sym is ∙ o), ne-eqb _ _ s, o, e)
+
+  pub beat-line : {b : ℕ} → b ≡ firstBeat δ n → b * δ ≤ n .start
+  beat-line e = rw e (div-mul-le-self (n .start) δ)
+
+-- ---- the note of a run
+
+module _ (δ : ℕ) (n : Note) (c d : Cell) {s : ℕ} (at : s ≡ startOf δ c) where
+  pub other-start : n .lane ≡ c .lane → (n .start ≡ s → ⊥) → false ≡ sameNote n (noteOfRun δ c d)
+  unfolding sameNote noteOfRun
+  other-start l o = rw (eq-eqb _ _ l, ne-eqb (n .start) (startOf δ c) (λ k. o (k ∙ sym at)))
+
+  module _ {e : ℕ} (to : e ≡ endOf δ d) where
+    pub other-end : n .lane ≡ c .lane → n .start ≡ s → (n .end ≡ e → ⊥) → false ≡ sameNote n (noteOfRun δ c d)
+    unfolding sameNote noteOfRun
+    other-end l k o =
+        rw (eq-eqb _ _ l, eq-eqb (n .start) (startOf δ c) (k ∙ at), ne-eqb (n .end) (endOf δ d) (λ k. o (k ∙ sym to)))
+
+    pub by-velocity : n .lane ≡ c .lane → n .start ≡ s → n .end ≡ e → eqb (n .velocity) (c .velocity) ≡ sameNote n (noteOfRun δ c d)
+    unfolding sameNote noteOfRun
+    by-velocity l k m = rw (eq-eqb _ _ l, eq-eqb (n .start) (startOf δ c) (k ∙ at), eq-eqb (n .end) (endOf δ d) (m ∙ to))
