@@ -7,3 +7,6 @@ pub mod WaysOut
 pub mod Layouts
 pub mod Lasts
 pub mod Chains
+pub mod Walks
+pub mod Standings
+pub mod Shelves

@@ -10,3 +10,4 @@ pub mod notes;
 pub mod rules;
 pub mod runs;
 pub mod shelf;
+pub mod sound;

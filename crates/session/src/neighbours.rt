@@ -33,7 +33,9 @@ fn in_range(beats: u32, c: Cell) -> bool
 fn memory_within(delta: u32, c: Cell) -> bool
     ensures { λ r. ⌜ r ≡ memoryWithin delta c ⌝ }
 {
-    (c.before as u64) + (c.after as u64) <= (Header::BEATS as u64) * (delta as u64)
+    let ticks = (c.before as u64) + (c.after as u64);
+    let most = (Header::BEATS as u64) * (delta as u64);
+    ticks <= most
 }
 
 // Has the cell's piece a tick in its beat?

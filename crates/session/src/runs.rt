@@ -4,6 +4,8 @@ ghost use mathlib.Core.Path.{_≡_};
 ghost use Prim.Native.Nat.{_*_, _<_, _≤_};
 ghost use lib.ListN.{length};
 ghost use Rattle.session.specs.Reading.{lastCells};
+ghost use mathlib.Core.List.{[]};
+ghost use Rattle.session.specs.Checking.{givenBy};
 ghost use Rattle.session.specs.Running.{firstLinked, firstShown, fromShown, fromLast, noteOfRun, sameNote};
 use crate::notes;
 use crate::rules;
@@ -87,4 +89,13 @@ pub fn is_note_of_run(delta: u32, n: Note, c: Cell, d: Cell) -> bool
         return false;
     }
     n.velocity == c.velocity
+}
+
+// Do the cells give no note?
+pub fn gives_none(h: Header, part: &[u32], end: usize, left: usize) -> bool
+    requires { ⌜ (6 * left ≤ end) × (end ≤ length (now part)) ⌝ }
+    ensures { λ r. ⌜ r ≡ givenBy h [] (lastCells (now (part .entry)) end left) ⌝ }
+{
+    let first = first_of_run(h, part, end, left);
+    last_of_run(h, part, end, first) == 0
 }

@@ -1,30 +1,29 @@
 -- `session::neighbours::memory_within` meets its contract. Assumes nothing.
+use mathlib.Core.Path.{refl}
 use Rattle.model.specs.Soundness.{memoryWithin}
-use native.Mathlib.Omega.{arith}
-use borrow.Author.Tests.{lt-ltb, le-ltb, lt-leb, le-leb, eq-eqb, ne-eqb}
 use borrow.Author.Needs.{needs}
 use Rattle.session.proofs.neighbours.memory_within.Statement.{statement}
 use Rattle.session.proofs.neighbours.memory_within.Tie as tie
 
-cast-result : tie.Need-cast-result
-cast-result c = search needs
+cast-ticks : tie.Need-cast-ticks
+cast-ticks c = search needs
 
-cast-result-2 : tie.Need-cast-result-2
-cast-result-2 c = search needs
+cast-ticks-2 : tie.Need-cast-ticks-2
+cast-ticks-2 c = search needs
 
-add-result : tie.Need-add-result
-add-result c = search needs
+add-ticks : tie.Need-add-ticks
+add-ticks c = search needs
 
-cast-result-3 : tie.Need-cast-result-3
-cast-result-3 c = search needs
+cast-most : tie.Need-cast-most
+cast-most c = search needs
 
-mul-result : tie.Need-mul-result
-mul-result c = search needs
+mul-most : tie.Need-mul-most
+mul-most c = search needs
 
 returns : tie.Need-returns
 unfolding memoryWithin
-returns c = search (lt-ltb, le-ltb, lt-leb, le-leb, eq-eqb, ne-eqb, arith)
+returns c = refl
 
 pub memory-within-spec : {M : Type 1} → statement M
 memory-within-spec =
-    tie.close (tie.spec cast-result cast-result-2 add-result cast-result-3 mul-result returns)
+    tie.close (tie.spec cast-ticks cast-ticks-2 add-ticks cast-most mul-most returns)
