@@ -41,11 +41,11 @@ use Rattle.beat.proofs.Passes.{notes-agree, cells-agree, parts-right, p
 
 module _ (h : Header) where
   -- a shelf of the session lies inside it
-  shelf-inside : (i len : ℕ) → InRange h len → i < h .shelves → shelfAt h i + h .words ≤ len
+  pub shelf-inside : (i len : ℕ) → InRange h len → i < h .shelves → shelfAt h i + h .words ≤ len
   shelf-inside i len r below = omega (arith, r .exact, suc-mul i (h .words), mul-le-mul-right (h .words) below)
 
   -- different shelves share no word
-  shelves-apart : (i j : ℕ) → (i ≡ j → ⊥) → Apart (shelfAt h i) (h .words) (shelfAt h j) (h .words)
+  pub shelves-apart : (i j : ℕ) → (i ≡ j → ⊥) → Apart (shelfAt h i) (h .words) (shelfAt h j) (h .words)
   shelves-apart i j differ =
       elim (ℕ-discrete i j) [
         | yes e ↦ absurd (differ e)
@@ -164,7 +164,7 @@ module _ {s : List ℕ} {h : Header} {v : Half} {i j : ℕ} (a : HalfAsks s h v 
           ∙ sym (left-pass h (range .some-ticks) (range .kept-within) t (sound-solid h (range .some-ticks) ws (a .sound)) (v .beat))
           ∙ rw e
 
-  half-fits : fits h half ≡ true
+  pub half-fits : fits h half ≡ true
   unfolding halfOf
   half-fits = go (v .right) refl
     where
