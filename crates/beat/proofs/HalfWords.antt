@@ -1,7 +1,6 @@
 -- A half of a sound shelf's take, written into another shelf. Assumes nothing.
 use mathlib.Core.Path.{_≡_, refl, sym, ap, _∙_}
-use mathlib.Core.Logic.{⊎-elim}
-use mathlib.Core.Bool.{Bool, true, false, cond, _&&_}
+use mathlib.Core.Bool.{Bool, true, false, _&&_}
 use mathlib.Core.List.{List, [], _∷_, _++_}
 use Prim.Native.Nat.{ℕ, suc, _+_, _-_, _*_, _/_, _≤_, _<_}
 use native.Mathlib.Nat.{mul-le-mul, mul-le-mul-right, suc-mul}
@@ -9,28 +8,26 @@ use native.Mathlib.Decide.{ℕ-discrete}
 use native.Mathlib.Omega.{arith}
 use borrow.Author.Tests.{leb-true, leb-false}
 use lib.Dec.{leb, ltb}
-use lib.ListN.{length, getD, take, drop}
+use lib.ListN.{length, getD, drop}
 use lib.Seq.{getD-drop, getD-take}
 use Rattle.words.specs.Apart.{Apart, Apart.ahead, Apart.behind, apart-swap, apart-within}
-use Rattle.words.specs.Parts.{Same, splice-same, length-part}
+use Rattle.words.specs.Parts.{Same, splice-same}
 use Rattle.words.specs.Splice.{splice, length-splice}
 use Rattle.model.specs.Lists.{consIf, gather, keep}
-use Rattle.model.specs.Limits.{maxShelves, maxWords, maxBeats, maxDelta}
+use Rattle.model.specs.Limits.{maxShelves, maxWords}
 use Rattle.model.specs.Session.{shelf, shelfAt}
-use Rattle.model.specs.Takes.{Take, noteWords, cellWords, wordsUsed, word, notesIn, cellsIn, readNotes, readCells, takeIn, notesOf, wordsOf, shelfWords, splitLeft, splitRight}
+use Rattle.model.specs.Takes.{Take, noteWords, cellWords, wordsUsed, word, notesIn, takeIn, notesOf, wordsOf, shelfWords, splitLeft, splitRight}
 use Rattle.model.specs.Questions.{fits, takeAt}
 use Rattle.model.specs.declared.Header.{Header}
-use Rattle.model.specs.declared.Note.{Note}
 use Rattle.model.specs.declared.Cell.{Cell}
 use Rattle.model.proofs.Headers.{InRange, in-range}
 use Rattle.laws.specs.Booleans.{and-left, and-right}
 use Rattle.laws.specs.Counting.{split-fits}
-use Rattle.laws.specs.Cutting.{cutLeftFrom, cutRightFrom}
 use Rattle.laws.specs.Halves.{left-pass, right-pass, left-half-cells, right-half-cells}
 use Rattle.laws.specs.Sound.{sound-solid, sound-notes, sound-used}
 use Rattle.session.specs.Framing.{framed}
 use Rattle.session.specs.Reading.{lastNotes, lastCells}
-use Rattle.session.proofs.Frames.{shelf-framed, length-notes, length-cells}
+use Rattle.session.proofs.Frames.{shelf-framed, length-notes}
 use Rattle.beat.specs.declared.halves.Half.{Half}
 use Rattle.beat.specs.declared.halves.Contents.{Contents}
 use Rattle.beat.specs.Making.{Made}

@@ -2,17 +2,17 @@
 use mathlib.Core.Path.{_≡_, refl, sym, ap, _∙_}
 use mathlib.Core.Bool.{Bool, true, false, cond, not, _&&_, and-true, true≢false}
 use mathlib.Core.List.{List, [], _∷_}
-use Prim.Native.Nat.{ℕ, _+_, _-_, _*_, _≤_, _<_}
+use Prim.Native.Nat.{ℕ, _+_, _-_, _≤_, _<_}
 use native.Mathlib.Nat.{add-zero}
 use native.Mathlib.Omega.{arith}
 use borrow.Author.Tests.{leb-true, ltb-true, le-leb, lt-leb, le-ltb, lt-ltb, eq-eqb, ne-eqb, not-true, not-false}
-use lib.Dec.{leb, ltb, eqb}
+use lib.Dec.{ltb, eqb}
 use lib.ListN.{length, getD, take, drop}
 use lib.Seq.{getD-drop, getD-take}
 use Rattle.words.specs.Parts.{length-part, part-splice-apart}
 use Rattle.words.specs.Splice.{splice, length-splice}
 use Rattle.model.specs.Limits.{maxBeats, maxDelta, maxShelves, maxWords, minWords}
-use Rattle.model.specs.Takes.{takeIn, wordsOf, splitLeft, splitRight, word}
+use Rattle.model.specs.Takes.{takeIn, wordsOf, splitLeft, splitRight}
 use Rattle.model.specs.Session.{headerOf, shelf, shelfAt, putShelf}
 use Rattle.model.specs.Soundness.{soundShelf}
 use Rattle.model.specs.Machine.{splitCall}
