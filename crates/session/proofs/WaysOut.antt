@@ -6,7 +6,7 @@ use native.Mathlib.Nat.{mul-le-mul, div-mul-le-self, suc-mul}
 use native.Mathlib.Numerals.{add-one}
 use native.Mathlib.Omega.{arith}
 use lib.Dec.{leb, ltb, eqb}
-use borrow.Author.Tests.{eq-eqb, ne-eqb, lt-ltb, not-true, not-false}
+use borrow.Author.Tests.{eq-eqb, ne-eqb, lt-ltb, le-ltb, not-true, not-false}
 use Rattle.model.specs.Binding.{standsAlone, meet, bound, noneAlone, fills, startOf, endOf}
 use Rattle.model.specs.Pieces.{firstBeat, insideAt, inside}
 use Rattle.model.specs.Soundness.{cellInRange, memoryWithin, hasTicks, cellBefore, filled, partners}
@@ -109,6 +109,10 @@ module _ (δ : ℕ) (c : Cell) where
   end-close e = rw (ne-eqb _ _ e, add-one)
 
 module _ (δ : ℕ) (n : Note) where
+  pub inside-not : n .start ≤ n .start / δ * δ → false ≡ inside δ n
+  unfolding insideAt
+  inside-not l = rw (le-ltb _ _ l)
+
   pub inside-end : n .start / δ * δ < n .start → ltb (n .end) (n .start / δ * δ + δ) ≡ inside δ n
   unfolding insideAt
   inside-end l =

@@ -124,9 +124,10 @@ pub fn is_inside(delta: u32, n: Note) -> bool
     requires { ⌜ 0 < delta ⌝ }
     ensures { λ r. ⌜ r ≡ inside delta n ⌝ }
 {
-    let line = n.start / delta * delta;
-    if n.start <= line {
+    let beat = n.start / delta;
+    let line = (beat as u64) * (delta as u64);
+    if (n.start as u64) <= line {
         return false;
     }
-    (n.end as u64) < (line as u64) + (delta as u64)
+    (n.end as u64) < line + (delta as u64)
 }

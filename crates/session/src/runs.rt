@@ -1,11 +1,11 @@
 // The notes that cells give: each is a run of pieces, each linked to the next. A place among the cells is the number of cells left,
 // up to place `end` of the words.
 ghost use mathlib.Core.Path.{_≡_};
+ghost use mathlib.Core.List.{[]};
 ghost use Prim.Native.Nat.{_*_, _<_, _≤_};
 ghost use lib.ListN.{length};
-ghost use Rattle.session.specs.Reading.{lastCells};
-ghost use mathlib.Core.List.{[]};
 ghost use Rattle.session.specs.Checking.{givenBy};
+ghost use Rattle.session.specs.Reading.{lastCells};
 ghost use Rattle.session.specs.Running.{firstLinked, firstShown, fromShown, fromLast, noteOfRun, sameNote};
 use crate::notes;
 use crate::rules;
