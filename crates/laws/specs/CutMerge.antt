@@ -32,7 +32,7 @@ merge-firsts : (ns xs ys : List Note) → All (λ n. All (Before n) ys) ns → m
 merge-firsts [] xs ys a = refl
 merge-firsts (n ∷ ns) xs ys a = merge-first n (ns ++ xs) ys (a .0) ∙ ap (_∷_ n) (merge-firsts ns xs ys (a .1))
 
-merge-seconds : (ns xs ys : List Note) → All (λ n. All (Before n) xs) ns → merge xs (ns ++ ys) ≡ ns ++ merge xs ys
+pub merge-seconds : (ns xs ys : List Note) → All (λ n. All (Before n) xs) ns → merge xs (ns ++ ys) ≡ ns ++ merge xs ys
 merge-seconds [] xs ys a = refl
 merge-seconds (n ∷ ns) xs ys a = merge-second n xs (ns ++ ys) (a .0) ∙ ap (_∷_ n) (merge-seconds ns xs ys (a .1))
 

@@ -33,7 +33,7 @@ module _ {A : Type 0} (lane : A → ℕ) (f : A → A) (same : (x : A) → lane 
   map-pairs (x ∷ xs) s = (rw (same x) (map-all (λ l. lane x ≤ l) xs (s .0)), map-pairs xs (s .1))
 
 module _ (δ : ℕ) (t : Take) (s : Solid δ t) where
-  cell-lanes : Pairs (λ c d. c .lane ≤ d .lane) (t .cells) × All (λ c. c .lane < 2048) (t .cells)
+  pub cell-lanes : Pairs (λ c d. c .lane ≤ d .lane) (t .cells) × All (λ c. c .lane < 2048) (t .cells)
   cell-lanes = (pairs-imp (Apart δ) (λ c d. c .lane ≤ d .lane) (t .cells) up (s .cells-apart), all-imp (Fine δ (t .beats)) (λ c. c .lane < 2048) (t .cells) (λ c f. f .lane-below) (s .cells-fine))
     where
       up : (c d : Cell) → Apart δ c d → c .lane ≤ d .lane

@@ -42,3 +42,10 @@ pub mod CutLines
 pub mod Cutting
 pub mod CutSides
 pub mod Halves
+pub mod SeamWalk
+pub mod SeamLanes
+pub mod Seam
+pub mod Joined
+pub mod JoinLanes
+pub mod JoinWalk
+pub mod JoinCount

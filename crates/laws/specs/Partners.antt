@@ -41,7 +41,7 @@ module _ {A : Type 0} where
   all-both P Q R [] h a b = tt
   all-both P Q R (x ∷ xs) h a b = (h x (a .0) (b .0), all-both P Q R xs h (a .1) (b .1))
 
-  all-parts : (P : A → Type 0) (xs ys : List A) → All P (xs ++ ys) → All P xs × All P ys
+  pub all-parts : (P : A → Type 0) (xs ys : List A) → All P (xs ++ ys) → All P xs × All P ys
   all-parts P [] ys a = (tt, a)
   all-parts P (x ∷ xs) ys a = let r = all-parts P xs ys (a .1) in ((a .0, r .0), r .1)
 
