@@ -1,3 +1,4 @@
 -- What the functions of the calls are asked, answer and leave.
 pub mod Making
 pub mod Laying
+pub mod Halving

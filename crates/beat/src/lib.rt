@@ -1,4 +1,5 @@
 // The calls on shelves, exported to C: open and lay.
 pub mod cells;
+pub mod halves;
 pub mod laying;
 pub mod opening;
