@@ -6,3 +6,4 @@ pub mod Calls
 pub mod Parts
 pub mod Passes
 pub mod HalfWords
+pub mod JoinCells

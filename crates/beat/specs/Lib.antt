@@ -2,3 +2,4 @@
 pub mod Making
 pub mod Laying
 pub mod Halving
+pub mod Joining
