@@ -7,3 +7,4 @@ pub mod Parts
 pub mod Passes
 pub mod HalfWords
 pub mod JoinCells
+pub mod JoinSeam

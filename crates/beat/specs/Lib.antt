@@ -3,3 +3,4 @@ pub mod Making
 pub mod Laying
 pub mod Halving
 pub mod Joining
+pub mod Seams

@@ -4,3 +4,4 @@ pub mod halves;
 pub mod joining;
 pub mod laying;
 pub mod opening;
+pub mod seam;
