@@ -7,3 +7,5 @@ pub mod Parts
 pub mod Passes
 pub mod HalfWords
 pub mod Splits
+pub mod JoinCells
+pub mod JoinSeam

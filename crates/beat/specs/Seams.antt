@@ -1,0 +1,37 @@
+-- The notes of a join, lane by lane: what each function is asked, and what it leaves. Assumes nothing.
+use mathlib.Core.Path.{_≡_}
+use mathlib.Core.List.{List, map}
+use Prim.Native.Nat.{ℕ, _+_, _-_, _*_, _≤_}
+use lib.ListN.{length}
+use Rattle.words.specs.Apart.{Apart}
+use Rattle.words.specs.Splice.{splice}
+use Rattle.model.specs.Lists.{gather}
+use Rattle.model.specs.Takes.{noteWords}
+use Rattle.model.specs.declared.Note.{Note}
+use Rattle.laws.specs.JoinWalk.{noteRun, noteRest}
+use Rattle.laws.specs.Relations.{All}
+use Rattle.laws.specs.SeamWalk.{noteLater}
+use Rattle.session.specs.Reading.{lastNotes}
+
+-- A note whose ticks are words so many ticks later.
+pub record Shiftable (ticks : ℕ) (n : Note) : Type 0 where
+  pub start-word : n .start + ticks ≤ 4294967295
+  pub end-word : n .end + ticks ≤ 4294967295
+
+-- The notes of a lane in front of the last k notes, so many ticks later.
+abbrev pub laterRun : ℕ → ℕ → List ℕ → ℕ → ℕ → List Note
+laterRun lane ticks s end k = map (noteLater ticks) (noteRun lane (lastNotes s end k))
+
+-- The last notes stand in their places, apart from the words that are written, and can be moved; room for those of the lane.
+pub record NoteRunAsks (s : List ℕ) (to lane ticks end left : ℕ) : Type 0 where
+  pub notes-in : 4 * left ≤ end
+  pub inside : end ≤ length s
+  pub shiftable : All (Shiftable ticks) (lastNotes s end left)
+  pub apart : Apart (end - 4 * left) (4 * left) to (4 * length (laterRun lane ticks s end left))
+  pub room : to + 4 * length (laterRun lane ticks s end left) ≤ length s
+
+-- They are written, and r notes are left.
+pub record NoteRunPut (s : List ℕ) (to lane ticks end left : ℕ) (t : List ℕ) (r : ℕ) : Type 0 where
+  pub words : t ≡ splice s to (gather noteWords (laterRun lane ticks s end left))
+  pub rest : lastNotes s end r ≡ noteRest lane (lastNotes s end left)
+  pub count : left ≡ r + length (laterRun lane ticks s end left)
