@@ -8,3 +8,4 @@ pub mod Passes
 pub mod HalfWords
 pub mod JoinCells
 pub mod JoinSeam
+pub mod JoinWords

@@ -35,3 +35,9 @@ pub record NoteRunPut (s : List ℕ) (to lane ticks end left : ℕ) (t : List �
   pub words : t ≡ splice s to (gather noteWords (laterRun lane ticks s end left))
   pub rest : lastNotes s end r ≡ noteRest lane (lastNotes s end left)
   pub count : left ≡ r + length (laterRun lane ticks s end left)
+
+-- The notes of a lane in front of the last `left` notes are read, and r notes are left.
+pub record RunRead (s : List ℕ) (lane end left r : ℕ) : Type 0 where
+  pub notes-in : 4 * left ≤ end
+  pub inside : end ≤ length s
+  pub count : left ≡ r + length (noteRun lane (lastNotes s end left))

@@ -2,12 +2,13 @@
 ghost use mathlib.Core.Path.{_≡_};
 ghost use Prim.Native.Nat.{_+_, _*_, _≤_};
 ghost use lib.ListN.{length};
-ghost use Rattle.laws.specs.JoinWalk.{laneAhead, cellRest};
-ghost use Rattle.laws.specs.Seam.{boundAt};
+ghost use Rattle.laws.specs.JoinWalk.{laneAhead, noteRun, cellRest};
+ghost use Rattle.laws.specs.Seam.{boundAt, endingAt, startingAt0, upTo, fromOn};
 ghost use Rattle.session.specs.Reading.{lastNotes, lastCells};
-ghost use Rattle.beat.specs.Seams.{NoteRunAsks, NoteRunPut};
+ghost use Rattle.beat.specs.Seams.{NoteRunAsks, NoteRunPut, RunRead};
 use model::Cell;
 use model::Header;
+use model::Note;
 use session::notes;
 use session::rules;
 
@@ -94,4 +95,70 @@ fn cell_lane(s: &[u32], end: usize, left: usize) -> u32
     }
     let c = notes::cell_at(s, end - 6 * left);
     c.lane
+}
+
+// ---- the note that goes over the line
+
+// A closing cell's note up to the line.
+fn ending(line: u32, c: Cell) -> Note
+    ensures { λ r. ⌜ r ≡ endingAt line c ⌝ }
+{
+    if line < c.before {
+        return Note {
+            lane: c.lane,
+            start: 0,
+            end: line,
+            velocity: c.velocity,
+        };
+    }
+    Note {
+        lane: c.lane,
+        start: line - c.before,
+        end: line,
+        velocity: c.velocity,
+    }
+}
+
+// An opening cell's note from a line at tick 0 on.
+fn starting(d: Cell) -> Note
+    ensures { λ r. ⌜ r ≡ startingAt0 d ⌝ }
+{
+    Note {
+        lane: d.lane,
+        start: 0,
+        end: d.after,
+        velocity: d.velocity,
+    }
+}
+
+// The note that goes over the line, up to it. Of the last `left` notes up to `end`, those of the cell's lane in front are read, and `rest` are left.
+pub fn up_to(s: &[u32], h: Header, line: u32, c: Cell, end: usize, left: usize, rest: usize) -> Note
+    requires { ⌜ RunRead (now s) (c .lane) end left rest ⌝ }
+    ensures { λ r. ⌜ r ≡ upTo h line c (noteRun (c .lane) (lastNotes (now (s .entry)) end left)) ⌝ }
+{
+    if rest == left {
+        return ending(line, c);
+    }
+    if rules::stands_alone(h, c) {
+        return notes::note_at(s, end - 4 * (rest + 1));
+    }
+    ending(line, c)
+}
+
+// The note that goes over the line, from it on, in the second take: of the last `left` notes up to `end`, those of the cell's lane in front.
+pub fn from_on(s: &[u32], h: Header, d: Cell, end: usize, left: usize) -> Note
+    requires { ⌜ (4 * left ≤ end) × (end ≤ length (now s)) ⌝ }
+    ensures { λ r. ⌜ r ≡ fromOn h d (noteRun (d .lane) (lastNotes (now (s .entry)) end left)) ⌝ }
+{
+    if left == 0 {
+        return starting(d);
+    }
+    let n = notes::note_at(s, end - 4 * left);
+    if n.lane != d.lane {
+        return starting(d);
+    }
+    if rules::stands_alone(h, d) {
+        return n;
+    }
+    starting(d)
 }
