@@ -18,12 +18,14 @@ use Rattle.model.specs.declared.Note.{Note}
 use Rattle.model.specs.declared.Cell.{Cell}
 use Rattle.laws.specs.JoinWalk.{runOf, restOf, laneAhead, noteRun, noteRest, cellRest}
 use Rattle.laws.specs.Relations.{All}
-use Rattle.laws.specs.Seam.{boundAt, firstOr, endingAt, startingAt0, upTo, fromOn}
+use Rattle.laws.specs.Seam.{boundAt, firstOr, endingAt, startingAt0, upTo, fromOn, joinOver}
 use Rattle.laws.specs.SeamWalk.{lastOr, noteLater}
 use Rattle.session.specs.Reading.{noteAt, cellAt, lastNotes, lastCells}
 use Rattle.session.proofs.Lasts.{no-notes, no-cells, last-notes, last-cells}
 use Rattle.session.proofs.Frames.{length-notes}
-use Rattle.beat.specs.Seams.{Shiftable, laterRun, NoteRunAsks, NoteRunPut, RunRead}
+use Rattle.beat.specs.declared.halves.Contents.{Contents}
+use Rattle.beat.specs.declared.seam.Seam.{Seam}
+use Rattle.beat.specs.Seams.{Shiftable, laterRun, NoteRunAsks, NoteRunPut, RunRead, OverAsks, laneNotes, laneBy, overSeam}
 use Rattle.beat.proofs.Passes.{notes-agree}
 
 -- ---- the lane in front
@@ -319,3 +321,20 @@ module _ (s : List ℕ) (end left : ℕ) (h : Header) (d : Cell) where
 pub ending-low : (lane line before velocity : ℕ) → line < before
     → _≡_ {A = Note} (record { lane = lane; start = 0; end = line; velocity = velocity }) (record { lane = lane; start = line - before; end = line; velocity = velocity })
 ending-low lane line before velocity less = let z : line - before ≡ 0 = omega arith in rw z
+
+-- ---- the seam
+
+module _ {s : List ℕ} {h : Header} {line : ℕ} {c d : Cell} {first : Contents} {rest : ℕ} {second : Contents} (a : OverAsks s h line c d first rest second) where
+  pub over-end : {m : Note} → m ≡ fromOn h d (laneNotes (d .lane) s second) → m .end + line ≤ 4294967295
+  over-end e = rw e (a .end-word)
+
+  pub over-is : {n m : Note} {b g : Bool} → n ≡ upTo h line c (laneNotes (c .lane) s first) → m ≡ fromOn h d (laneNotes (d .lane) s second)
+      → b ≡ standsAlone h c → g ≡ standsAlone h d
+      → _≡_ {A = Seam} (record { over = true; held = b; skipped = g; note = record { lane = n .lane; start = n .start; end = m .end + line; velocity = n .velocity } })
+      (overSeam h line c d (laneNotes (c .lane) s first) (laneNotes (d .lane) s second))
+  over-is e f x y = rw (e, f, x, y)
+
+-- the lane's notes where a note goes over the line
+pub over-lane : (h : Header) (line : ℕ) (c d : Cell) (ms ns : List Note) → joinOver h line c d ms ns ≡ laneBy (overSeam h line c d ms ns) line ms ns
+unfolding joinOver laneBy
+over-lane h line c d ms ns = refl

@@ -5,7 +5,8 @@ ghost use lib.ListN.{length};
 ghost use Rattle.laws.specs.JoinWalk.{laneAhead, noteRun, cellRest};
 ghost use Rattle.laws.specs.Seam.{boundAt, endingAt, startingAt0, upTo, fromOn};
 ghost use Rattle.session.specs.Reading.{lastNotes, lastCells};
-ghost use Rattle.beat.specs.Seams.{NoteRunAsks, NoteRunPut, RunRead};
+ghost use Rattle.beat.specs.Seams.{NoteRunAsks, NoteRunPut, RunRead, OverAsks, laneNotes, overSeam};
+use crate::halves::Contents;
 use model::Cell;
 use model::Header;
 use model::Note;
@@ -161,4 +162,45 @@ pub fn from_on(s: &[u32], h: Header, d: Cell, end: usize, left: usize) -> Note
         return n;
     }
     starting(d)
+}
+
+// What happens at the seam of a lane.
+pub struct Seam {
+    // Does a note go over the line?
+    pub over: bool,
+    // Is the last of the first take's notes a part of it?
+    pub held: bool,
+    // Is the first of the second take's notes a part of it?
+    pub skipped: bool,
+    // That note.
+    pub note: Note,
+}
+
+// The seam where a note goes over the line: c and d are the lane's cells on it. Of the first's notes of the lane, all but `rest` are read.
+pub fn seam_over(
+    s: &[u32],
+    h: Header,
+    line: u32,
+    c: Cell,
+    d: Cell,
+    first: Contents,
+    rest: usize,
+    second: Contents,
+) -> Seam
+    requires { ⌜ OverAsks (now s) h line c d first rest second ⌝ }
+    ensures { λ r. ⌜ r ≡ overSeam h line c d (laneNotes (c .lane) (now (s .entry)) first) (laneNotes (d .lane) (now (s .entry)) second) ⌝ }
+{
+    let n = up_to(s, h, line, c, first.middle, first.notes, rest);
+    let m = from_on(s, h, d, second.middle, second.notes);
+    Seam {
+        over: true,
+        held: rules::stands_alone(h, c),
+        skipped: rules::stands_alone(h, d),
+        note: Note {
+            lane: n.lane,
+            start: n.start,
+            end: m.end + line,
+            velocity: n.velocity,
+        },
+    }
 }
