@@ -2,7 +2,7 @@
 use mathlib.Core.Path.{_≡_, refl, sym, ap, _∙_}
 use mathlib.Core.Bool.{Bool, true, false, cond, true≢false}
 use mathlib.Core.List.{List, [], _∷_, _++_, map}
-use Prim.Native.Nat.{ℕ, zero, suc, _+_, _-_, _*_, _≤_, _<_}
+use Prim.Native.Nat.{ℕ, zero, suc, _+_, _-_, _*_, _≤_, _<_, min}
 use native.Mathlib.Omega.{arith}
 use borrow.Author.Tests.{eq-eqb, eqb-true, ne-eqb, leb-true, leb-false}
 use lib.Dec.{leb, eqb}
@@ -16,7 +16,7 @@ use Rattle.model.specs.Takes.{noteWords}
 use Rattle.model.specs.declared.Header.{Header}
 use Rattle.model.specs.declared.Note.{Note}
 use Rattle.model.specs.declared.Cell.{Cell}
-use Rattle.laws.specs.JoinWalk.{runOf, restOf, laneAhead, noteRun, noteRest, cellRest}
+use Rattle.laws.specs.JoinWalk.{runOf, restOf, laneAhead, leastLane, noteRun, noteRest, cellRest}
 use Rattle.laws.specs.Relations.{All}
 use Rattle.laws.specs.Seam.{boundAt, firstOr, endingAt, startingAt0, upTo, fromOn, joinOver}
 use Rattle.laws.specs.SeamWalk.{lastOr, noteLater}
@@ -25,7 +25,7 @@ use Rattle.session.proofs.Lasts.{no-notes, no-cells, last-notes, last-cells}
 use Rattle.session.proofs.Frames.{length-notes}
 use Rattle.beat.specs.declared.halves.Contents.{Contents}
 use Rattle.beat.specs.declared.seam.Seam.{Seam}
-use Rattle.beat.specs.Seams.{Shiftable, laterRun, NoteRunAsks, NoteRunPut, RunRead, OverAsks, laneNotes, laneBy, overSeam}
+use Rattle.beat.specs.Seams.{Shiftable, laterRun, NoteRunAsks, NoteRunPut, RunRead, OverAsks, laneNotes, laneBy, overSeam, laneOf}
 use Rattle.beat.proofs.Passes.{notes-agree}
 
 -- ---- the lane in front
@@ -338,3 +338,15 @@ module _ {s : List ℕ} {h : Header} {line : ℕ} {c d : Cell} {first : Contents
 pub over-lane : (h : Header) (line : ℕ) (c d : Cell) (ms ns : List Note) → joinOver h line c d ms ns ≡ laneBy (overSeam h line c d ms ns) line ms ns
 unfolding joinOver laneBy
 over-lane h line c d ms ns = refl
+
+-- ---- the lane that is next
+
+pub lane-is : (s : List ℕ) (from : Contents) {a b r : ℕ} → a ≡ laneAhead (λ n. n .lane) (lastNotes s (from .middle) (from .notes))
+    → b ≡ laneAhead (λ c. c .lane) (lastCells s (from .end) (from .cells)) → r ≡ min a b → r ≡ laneOf s from
+unfolding laneOf
+lane-is s from e f g = g ∙ rw (e, f)
+
+pub least-is : (s : List ℕ) (first second : Contents) {a b r : ℕ} → a ≡ laneOf s first → b ≡ laneOf s second → r ≡ min a b
+    → r ≡ leastLane (lastNotes s (first .middle) (first .notes)) (lastCells s (first .end) (first .cells)) (lastNotes s (second .middle) (second .notes)) (lastCells s (second .end) (second .cells))
+unfolding laneOf leastLane
+least-is s first second e f g = g ∙ rw (e, f)

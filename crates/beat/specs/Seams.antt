@@ -2,7 +2,7 @@
 use mathlib.Core.Path.{_≡_}
 use mathlib.Core.Bool.{cond, true}
 use mathlib.Core.List.{List, _∷_, _++_, map}
-use Prim.Native.Nat.{ℕ, _+_, _-_, _*_, _≤_}
+use Prim.Native.Nat.{ℕ, _+_, _-_, _*_, _≤_, min}
 use lib.ListN.{length}
 use Rattle.words.specs.Apart.{Apart}
 use Rattle.words.specs.Splice.{splice}
@@ -13,11 +13,11 @@ use Rattle.model.specs.declared.Cell.{Cell}
 use Rattle.model.specs.declared.Header.{Header}
 use Rattle.model.specs.declared.Note.{Note}
 use Rattle.laws.specs.CutLines.{joined}
-use Rattle.laws.specs.JoinWalk.{noteRun, noteRest}
+use Rattle.laws.specs.JoinWalk.{laneAhead, noteRun, noteRest}
 use Rattle.laws.specs.Relations.{All}
 use Rattle.laws.specs.Seam.{butFirst, butLast, upTo, fromOn, joinApart}
 use Rattle.laws.specs.SeamWalk.{noteLater}
-use Rattle.session.specs.Reading.{lastNotes}
+use Rattle.session.specs.Reading.{lastNotes, lastCells}
 use Rattle.beat.specs.declared.halves.Contents.{Contents}
 use Rattle.beat.specs.declared.seam.Seam.{Seam}
 
@@ -76,3 +76,17 @@ pub record OverAsks (s : List ℕ) (h : Header) (line : ℕ) (c d : Cell) (first
   pub second-in : 4 * second .notes ≤ second .middle
   pub second-inside : second .middle ≤ length s
   pub end-word : (fromOn h d (laneNotes (d .lane) s second)) .end + line ≤ 4294967295
+
+-- ---- the lane that is next
+
+-- A take's notes and cells stand in their places.
+pub record InPlace (s : List ℕ) (from : Contents) : Type 0 where
+  pub notes-in : 4 * from .notes ≤ from .middle
+  pub notes-inside : from .middle ≤ length s
+  pub cells-in : 6 * from .cells ≤ from .end
+  pub cells-inside : from .end ≤ length s
+
+-- The least lane in front of them.
+unfoldable pub laneOf : List ℕ → Contents → ℕ
+unfolding laneAhead lastNotes lastCells
+laneOf s from = min (laneAhead (λ n. n .lane) (lastNotes s (from .middle) (from .notes))) (laneAhead (λ c. c .lane) (lastCells s (from .end) (from .cells)))

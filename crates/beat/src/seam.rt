@@ -1,11 +1,11 @@
 // The notes of a join, lane by lane: copied from both takes, and at the seam decided by the rules.
 ghost use mathlib.Core.Path.{_≡_};
-ghost use Prim.Native.Nat.{_+_, _*_, _≤_};
+ghost use Prim.Native.Nat.{_+_, _*_, _≤_, min};
 ghost use lib.ListN.{length};
-ghost use Rattle.laws.specs.JoinWalk.{laneAhead, noteRun, cellRest};
+ghost use Rattle.laws.specs.JoinWalk.{laneAhead, leastLane, noteRun, cellRest};
 ghost use Rattle.laws.specs.Seam.{boundAt, endingAt, startingAt0, upTo, fromOn};
 ghost use Rattle.session.specs.Reading.{lastNotes, lastCells};
-ghost use Rattle.beat.specs.Seams.{NoteRunAsks, NoteRunPut, RunRead, OverAsks, laneNotes, overSeam};
+ghost use Rattle.beat.specs.Seams.{NoteRunAsks, NoteRunPut, RunRead, OverAsks, laneNotes, overSeam, InPlace, laneOf};
 use crate::halves::Contents;
 use model::Cell;
 use model::Header;
@@ -203,4 +203,36 @@ pub fn seam_over(
             velocity: n.velocity,
         },
     }
+}
+
+// ---- the lane that is next
+
+// The lesser of two lanes.
+fn lesser(a: u32, b: u32) -> u32
+    ensures { λ r. ⌜ r ≡ min a b ⌝ }
+{
+    if a <= b {
+        return a;
+    }
+    b
+}
+
+// The least lane in front of a take's notes and cells: 2,048 if there are none.
+fn lane_of(s: &[u32], from: Contents) -> u32
+    requires { ⌜ InPlace (now s) from ⌝ }
+    ensures { λ r. ⌜ r ≡ laneOf (now (s .entry)) from ⌝ }
+{
+    let a = note_lane(s, from.middle, from.notes);
+    let b = cell_lane(s, from.end, from.cells);
+    lesser(a, b)
+}
+
+// The least lane in front of both takes' notes and cells: 2,048 if there are none.
+pub fn least_lane(s: &[u32], first: Contents, second: Contents) -> u32
+    requires { ⌜ InPlace (now s) first × InPlace (now s) second ⌝ }
+    ensures { λ r. ⌜ r ≡ leastLane (lastNotes (now (s .entry)) (first .middle) (first .notes)) (lastCells (now (s .entry)) (first .end) (first .cells)) (lastNotes (now (s .entry)) (second .middle) (second .notes)) (lastCells (now (s .entry)) (second .end) (second .cells)) ⌝ }
+{
+    let a = lane_of(s, first);
+    let b = lane_of(s, second);
+    lesser(a, b)
 }
