@@ -17,6 +17,14 @@ unsafe extern "C" {
         notes: *const u32,
         note_words: usize,
     ) -> u32;
+    fn take_split(
+        session: *mut u32,
+        words: usize,
+        take: u32,
+        beat: u32,
+        left: u32,
+        right: u32,
+    ) -> u32;
 }
 
 pub fn open(session: &mut [u32], header: [u32; 4]) -> u32 {
@@ -30,4 +38,9 @@ pub fn lay(session: &mut [u32], shelf: u32, beats: u32, notes: &[u32]) -> u32 {
     unsafe {
         take_lay(session.as_mut_ptr(), session.len(), shelf, beats, notes.as_ptr(), notes.len())
     }
+}
+
+pub fn split(session: &mut [u32], take: u32, beat: u32, left: u32, right: u32) -> u32 {
+    // SAFETY: pointer and length are those of a lent slice.
+    unsafe { take_split(session.as_mut_ptr(), session.len(), take, beat, left, right) }
 }

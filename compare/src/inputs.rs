@@ -81,3 +81,34 @@ pub fn words_used(delta: u32, list: &[u32]) -> u32 {
         .sum();
     3 + list.len() as u32 + 6 * cells
 }
+
+/// Three shelves for a split, mostly different and below 5.
+pub fn shelves(random: &mut Random) -> [u32; 3] {
+    let first = random.below(5);
+    let mut shelves =
+        [first, (first + random.between(1, 2)) % 5, (first + random.between(3, 4)) % 5];
+    if random.one_in(8) {
+        shelves[random.below(3) as usize] = random.pick(&[0, 1, 2, 3, 4, 5, u32::MAX]);
+    }
+    shelves
+}
+
+/// A place in the session, mostly among the first words of a shelf.
+pub fn place(random: &mut Random, header: [u32; 4]) -> usize {
+    let shelf = match random.below(8) {
+        0 => return random.below(4) as usize,
+        1 => header[3],
+        _ => header[3].min(40),
+    };
+    (4 + random.below(5) * header[3] + random.below(shelf)) as usize
+}
+
+/// Another word in the place of this one.
+pub fn damaged(random: &mut Random, word: u32) -> u32 {
+    match random.below(4) {
+        0 => word.wrapping_add(1),
+        1 => word.wrapping_sub(1),
+        2 => random.pick(&[0, 1, 4096, 4097, u32::MAX]),
+        _ => random.below(600),
+    }
+}

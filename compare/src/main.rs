@@ -16,6 +16,7 @@ use std::process::ExitCode;
 struct Counts {
     open: [u64; 2],
     lay: [u64; 9],
+    split: [u64; 6],
 }
 
 /// A session in both implementations.
@@ -60,6 +61,32 @@ impl Pair {
         }
         counts.lay[number as usize] += 1;
         Ok(number)
+    }
+
+    fn split(
+        &mut self,
+        take: u32,
+        beat: u32,
+        left: u32,
+        right: u32,
+        counts: &mut Counts,
+    ) -> Result<u32, String> {
+        let number = engine::split(self.proved.words_mut(), take, beat, left, right);
+        let expected = reference::split(&mut self.second, take, beat, left, right);
+        if number != expected || !self.proved.holds(&self.second) {
+            return Err(format!(
+                "split {take} {beat} {left} {right}: {number}, expected {expected}"
+            ));
+        }
+        counts.split[number as usize] += 1;
+        Ok(number)
+    }
+
+    /// A join by the second implementation alone, for takes of several
+    /// recordings.
+    fn join(&mut self, first: u32, second: u32, result: u32) {
+        reference::join(&mut self.second, first, second, result);
+        self.proved.words_mut().copy_from_slice(&self.second);
     }
 }
 
@@ -113,12 +140,49 @@ fn just_fitting(random: &mut Random, counts: &mut Counts) -> Result<(), String> 
     Ok(())
 }
 
+/// Lays, joins and splits in one session, any of its words damaged now and
+/// then for one split.
+fn splits(random: &mut Random, counts: &mut Counts) -> Result<(), String> {
+    let delta = random.pick(&[1, 2, 3, 10, 480]);
+    let header = [delta, random.between(1, delta), 5, random.between(3, 500)];
+    let length = 4 + 5 * header[3] as usize;
+    let mut pair = Pair::new(inputs::words(random, length));
+    pair.open(header, counts)?;
+    for _ in 0..16 {
+        match random.below(4) {
+            0 => {
+                let beats = random.below(9);
+                let list = inputs::list(random, header, beats);
+                pair.lay(random.below(5), beats, &list, counts)?;
+            }
+            1 => pair.join(random.below(5), random.below(5), random.below(5)),
+            _ => {
+                let place = inputs::place(random, header);
+                let damaged = random.one_in(4).then(|| pair.second[place]);
+                if let Some(word) = damaged {
+                    pair.set(place, inputs::damaged(random, word));
+                }
+                let [take, left, right] = inputs::shelves(random);
+                let first = 4 + u64::from(take) * u64::from(header[3]);
+                let beats = pair.second.get(first as usize).copied().unwrap_or(0);
+                let beat = random.below(beats.min(40) + 2);
+                pair.split(take, beat, left, right, counts)?;
+                if let Some(word) = damaged {
+                    pair.set(place, word);
+                }
+            }
+        }
+    }
+    Ok(())
+}
+
 fn compare(rounds: u64) -> Result<Counts, String> {
     let mut counts = Counts::default();
     for round in 0..rounds {
         let mut random = Random::new(round);
         any_session(&mut random, &mut counts).map_err(|what| format!("round {round}: {what}"))?;
         just_fitting(&mut random, &mut counts).map_err(|what| format!("round {round}: {what}"))?;
+        splits(&mut random, &mut counts).map_err(|what| format!("round {round}: {what}"))?;
     }
     Ok(counts)
 }
@@ -134,8 +198,9 @@ fn main() -> ExitCode {
     };
     match compare(rounds) {
         Ok(counts) => {
-            let calls: u64 = counts.open.iter().chain(&counts.lay).sum();
-            println!("{calls} calls agree; open by number {:?}, lay {:?}", counts.open, counts.lay);
+            let Counts { open, lay, split } = counts;
+            let calls: u64 = open.iter().chain(&lay).chain(&split).sum();
+            println!("{calls} calls agree; open by number {open:?}, lay {lay:?}, split {split:?}");
             ExitCode::SUCCESS
         }
         Err(what) => {

@@ -1,7 +1,6 @@
 -- A half of a sound shelf's take, written into another shelf. Assumes nothing.
 use mathlib.Core.Path.{_≡_, refl, sym, ap, _∙_}
-use mathlib.Core.Logic.{⊎-elim}
-use mathlib.Core.Bool.{Bool, true, false, cond, _&&_}
+use mathlib.Core.Bool.{Bool, true, false, _&&_}
 use mathlib.Core.List.{List, [], _∷_, _++_}
 use Prim.Native.Nat.{ℕ, suc, _+_, _-_, _*_, _/_, _≤_, _<_}
 use native.Mathlib.Nat.{mul-le-mul, mul-le-mul-right, suc-mul}
@@ -9,28 +8,26 @@ use native.Mathlib.Decide.{ℕ-discrete}
 use native.Mathlib.Omega.{arith}
 use borrow.Author.Tests.{leb-true, leb-false}
 use lib.Dec.{leb, ltb}
-use lib.ListN.{length, getD, take, drop}
+use lib.ListN.{length, getD, drop}
 use lib.Seq.{getD-drop, getD-take}
 use Rattle.words.specs.Apart.{Apart, Apart.ahead, Apart.behind, apart-swap, apart-within}
-use Rattle.words.specs.Parts.{Same, splice-same, length-part}
+use Rattle.words.specs.Parts.{Same, splice-same}
 use Rattle.words.specs.Splice.{splice, length-splice}
 use Rattle.model.specs.Lists.{consIf, gather, keep}
-use Rattle.model.specs.Limits.{maxShelves, maxWords, maxBeats, maxDelta}
+use Rattle.model.specs.Limits.{maxShelves, maxWords}
 use Rattle.model.specs.Session.{shelf, shelfAt}
-use Rattle.model.specs.Takes.{Take, noteWords, cellWords, wordsUsed, word, notesIn, cellsIn, readNotes, readCells, takeIn, notesOf, wordsOf, shelfWords, splitLeft, splitRight}
+use Rattle.model.specs.Takes.{Take, noteWords, cellWords, wordsUsed, word, notesIn, takeIn, notesOf, wordsOf, shelfWords, splitLeft, splitRight}
 use Rattle.model.specs.Questions.{fits, takeAt}
 use Rattle.model.specs.declared.Header.{Header}
-use Rattle.model.specs.declared.Note.{Note}
 use Rattle.model.specs.declared.Cell.{Cell}
 use Rattle.model.proofs.Headers.{InRange, in-range}
 use Rattle.laws.specs.Booleans.{and-left, and-right}
 use Rattle.laws.specs.Counting.{split-fits}
-use Rattle.laws.specs.Cutting.{cutLeftFrom, cutRightFrom}
 use Rattle.laws.specs.Halves.{left-pass, right-pass, left-half-cells, right-half-cells}
 use Rattle.laws.specs.Sound.{sound-solid, sound-notes, sound-used}
 use Rattle.session.specs.Framing.{framed}
 use Rattle.session.specs.Reading.{lastNotes, lastCells}
-use Rattle.session.proofs.Frames.{shelf-framed, length-notes, length-cells}
+use Rattle.session.proofs.Frames.{shelf-framed, length-notes}
 use Rattle.beat.specs.declared.halves.Half.{Half}
 use Rattle.beat.specs.declared.halves.Contents.{Contents}
 use Rattle.beat.specs.Making.{Made}
@@ -41,11 +38,11 @@ use Rattle.beat.proofs.Passes.{notes-agree, cells-agree, parts-right, p
 
 module _ (h : Header) where
   -- a shelf of the session lies inside it
-  shelf-inside : (i len : ℕ) → InRange h len → i < h .shelves → shelfAt h i + h .words ≤ len
+  pub shelf-inside : (i len : ℕ) → InRange h len → i < h .shelves → shelfAt h i + h .words ≤ len
   shelf-inside i len r below = omega (arith, r .exact, suc-mul i (h .words), mul-le-mul-right (h .words) below)
 
   -- different shelves share no word
-  shelves-apart : (i j : ℕ) → (i ≡ j → ⊥) → Apart (shelfAt h i) (h .words) (shelfAt h j) (h .words)
+  pub shelves-apart : (i j : ℕ) → (i ≡ j → ⊥) → Apart (shelfAt h i) (h .words) (shelfAt h j) (h .words)
   shelves-apart i j differ =
       elim (ℕ-discrete i j) [
         | yes e ↦ absurd (differ e)
@@ -164,7 +161,7 @@ module _ {s : List ℕ} {h : Header} {v : Half} {i j : ℕ} (a : HalfAsks s h v 
           ∙ sym (left-pass h (range .some-ticks) (range .kept-within) t (sound-solid h (range .some-ticks) ws (a .sound)) (v .beat))
           ∙ rw e
 
-  half-fits : fits h half ≡ true
+  pub half-fits : fits h half ≡ true
   unfolding halfOf
   half-fits = go (v .right) refl
     where

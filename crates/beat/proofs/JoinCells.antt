@@ -15,7 +15,7 @@ use Rattle.model.specs.Lists.{gather}
 use Rattle.model.specs.Takes.{cellWords}
 use Rattle.model.specs.declared.Cell.{Cell}
 use Rattle.laws.specs.Lists.{gather-append}
-use Rattle.laws.specs.Lanes.{weaveLane, mergeLane}
+use Rattle.laws.specs.Lanes.{insertLane, mergeLane}
 use Rattle.laws.specs.Relations.{All}
 use Rattle.laws.specs.SeamWalk.{cellLater}
 use Rattle.session.specs.Reading.{cellAt, lastCells}
@@ -58,20 +58,20 @@ upper-none l = refl
 -- a walk over both: the second's of lower lanes, the first's first cell, and the walk over what is left
 merge-step : (c : Cell) (cs ds : List Cell)
     → mergeLane (λ c. c .lane) (c ∷ cs) ds ≡ lowerCells (c .lane) ds ++ c ∷ mergeLane (λ c. c .lane) cs (upperCells (c .lane) ds)
-unfolding mergeLane weaveLane lowerCells upperCells
+unfolding mergeLane insertLane lowerCells upperCells
 merge-step c cs ds = go ds
   where
-    go : (ds : List Cell) → weaveLane (λ c. c .lane) c (λ es. mergeLane (λ c. c .lane) cs es) ds
+    go : (ds : List Cell) → insertLane (λ c. c .lane) c (λ es. mergeLane (λ c. c .lane) cs es) ds
         ≡ lowerCells (c .lane) ds ++ c ∷ mergeLane (λ c. c .lane) cs (upperCells (c .lane) ds)
     go [] = refl
     go (d ∷ ds) = by (leb (c .lane) (d .lane)) refl (go ds)
       where
         by : (b : Bool) → leb (c .lane) (d .lane) ≡ b
-            → weaveLane (λ c. c .lane) c (λ es. mergeLane (λ c. c .lane) cs es) ds ≡ lowerCells (c .lane) ds ++ c ∷ mergeLane (λ c. c .lane) cs (upperCells (c .lane) ds)
-            → weaveLane (λ c. c .lane) c (λ es. mergeLane (λ c. c .lane) cs es) (d ∷ ds)
+            → insertLane (λ c. c .lane) c (λ es. mergeLane (λ c. c .lane) cs es) ds ≡ lowerCells (c .lane) ds ++ c ∷ mergeLane (λ c. c .lane) cs (upperCells (c .lane) ds)
+            → insertLane (λ c. c .lane) c (λ es. mergeLane (λ c. c .lane) cs es) (d ∷ ds)
             ≡ lowerCells (c .lane) (d ∷ ds) ++ c ∷ mergeLane (λ c. c .lane) cs (upperCells (c .lane) (d ∷ ds))
-        by true e ih = rw (e, weaveLane)
-        by false e ih = rw (e, weaveLane) (ap (_∷_ d) ih)
+        by true e ih = rw (e, insertLane)
+        by false e ih = rw (e, insertLane) (ap (_∷_ d) ih)
 
 -- ---- the last cells
 

@@ -6,6 +6,7 @@ pub mod Calls
 pub mod Parts
 pub mod Passes
 pub mod HalfWords
+pub mod Splits
 pub mod JoinCells
 pub mod JoinSeam
 pub mod JoinWords

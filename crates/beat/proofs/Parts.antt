@@ -1,15 +1,14 @@
 -- What a half has of a note and of a cell, by the way that the code goes. Assumes nothing.
-use mathlib.Core.Path.{_≡_, refl, sym, ap, _∙_}
-use mathlib.Core.Bool.{Bool, true, false, not, cond}
+use mathlib.Core.Path.{_≡_, _∙_}
+use mathlib.Core.Bool.{Bool, true, false, not}
 use mathlib.Core.List.{List, [], _∷_}
-use mathlib.Core.Option.{Option, none, some}
-use Prim.Native.Nat.{ℕ, zero, suc, _+_, _-_, _*_, _≤_, _<_}
+use mathlib.Core.Option.{some}
+use Prim.Native.Nat.{ℕ, _+_, _-_, _*_, _≤_, _<_}
 use native.Mathlib.Omega.{arith}
 use borrow.Author.Tests.{le-leb, lt-leb, le-ltb, lt-ltb, eq-eqb, ne-eqb, not-true, not-false}
-use lib.Dec.{leb, ltb}
 use lib.ListN.{length}
 use Rattle.words.specs.Splice.{splice}
-use Rattle.model.specs.Lists.{consIf, gather}
+use Rattle.model.specs.Lists.{consIf}
 use Rattle.model.specs.Binding.{standsAlone}
 use Rattle.model.specs.Takes.{noteWords, cellWords, cellTo}
 use Rattle.model.specs.declared.Header.{Header}

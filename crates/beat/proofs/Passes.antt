@@ -8,7 +8,6 @@ use native.Mathlib.Omega.{arith}
 use lib.Dec.{leb}
 use lib.ListN.{length, getD, length-append}
 use Rattle.words.specs.Parts.{Same}
-use Rattle.words.specs.Splice.{splice}
 use Rattle.words.specs.Writes.{Writes, writes-start, writes-run, writes-done, writes-same}
 use Rattle.model.specs.Lists.{gather}
 use Rattle.model.specs.Takes.{noteWords, cellWords}
@@ -17,7 +16,7 @@ use Rattle.model.specs.declared.Note.{Note}
 use Rattle.model.specs.declared.Cell.{Cell}
 use Rattle.laws.specs.Lists.{gather-append}
 use Rattle.laws.specs.Sweep.{skip}
-use Rattle.laws.specs.Cutting.{noteBack, firstCell, closingCell, crossLeft, crossRight, cutLeftFrom, cutRightFrom, left-step, right-step}
+use Rattle.laws.specs.Cutting.{firstCell, closingCell, crossLeft, crossRight, cutLeftFrom, cutRightFrom, left-step, right-step}
 use Rattle.session.specs.Reading.{noteAt, cellAt, lastNotes, lastCells}
 use Rattle.session.proofs.Readings.{note-same}
 use Rattle.session.proofs.Lasts.{no-notes, no-cells, last-notes, last-cells}

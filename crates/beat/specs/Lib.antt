@@ -2,5 +2,6 @@
 pub mod Making
 pub mod Laying
 pub mod Halving
+pub mod Splitting
 pub mod Joining
 pub mod Seams

@@ -1,7 +1,8 @@
-// The calls on shelves, exported to C: open and lay.
+// The calls on shelves, exported to C: open, lay and split; and parts of join.
 pub mod cells;
 pub mod halves;
 pub mod joining;
 pub mod laying;
 pub mod opening;
 pub mod seam;
+pub mod splitting;

@@ -6,7 +6,7 @@ use mathlib.Core.Path.{_∙_, _≡_, ap, refl, sym}
 use Prim.Native.Nat.{_-_, _<_, _≤_, ℕ}
 use native.Mathlib.Omega.{arith}
 use Rattle.model.specs.Lists.{gather}
-use Rattle.model.specs.Takes.{merge, noteBefore, weave}
+use Rattle.model.specs.Takes.{merge, noteBefore, insert}
 use Rattle.model.specs.declared.Note.{Note}
 use Rattle.laws.specs.Merging.{first-of, merge-first, merge-second, second-of}
 use Rattle.laws.specs.Notes.{Away, Before, Follow, Long, above, before, follow-trans, later}
@@ -78,12 +78,12 @@ module _ (s : ℕ) (f : Note → List Note) (parts : (n : Note) → Long n → A
     away = all-imp (λ x. All (Away x) (y ∷ ys)) (λ x. All (Away x) ys) xs (λ x a. a .1) (d .away);
   }
 
-  weave-cut : (x : Note) (xs : List Note) → ((ys : List Note) → Sides xs ys → Merges xs ys) → (ys : List Note) → Sides (x ∷ xs) ys
+  insert-cut : (x : Note) (xs : List Note) → ((ys : List Note) → Sides xs ys → Merges xs ys) → (ys : List Note) → Sides (x ∷ xs) ys
       → Merges (x ∷ xs) ys
-  unfolding merge weave
-  weave-cut x xs h [] d =
+  unfolding merge insert
+  insert-cut x xs h [] d =
       ap (_++_ (f x)) (h [] (fewer-first x xs [] d)) ∙ sym (merge-firsts (f x) (gather f xs) [] (parts-before x [] (d .long-first .0) tt tt))
-  weave-cut x xs h (y ∷ ys) d = go (noteBefore x y) refl (weave-cut x xs h ys (fewer-second y (x ∷ xs) ys d))
+  insert-cut x xs h (y ∷ ys) d = go (noteBefore x y) refl (insert-cut x xs h ys (fewer-second y (x ∷ xs) ys d))
     where
       v : Long x
       v = d .long-first .0
@@ -95,20 +95,20 @@ module _ (s : ℕ) (f : Note → List Note) (parts : (n : Note) → Long n → A
       go true e ih =
           let g : Follow x y = first-of x y v w (d .away .0 .0) e in
           let gs : All (Follow x) (y ∷ ys) = (g, all-imp (Follow y) (Follow x) ys (λ m k. follow-trans x y m w g k) (d .second-apart .0)) in
-          rw (e, weave)
+          rw (e, insert)
           (ap (_++_ (f x)) (h (y ∷ ys) (fewer-first x xs (y ∷ ys) d))
           ∙ sym (merge-firsts (f x) (gather f xs) (gather f (y ∷ ys)) (parts-before x (y ∷ ys) v (d .long-second) gs)))
       go false e ih =
           let g : Follow y x = second-of x y v w (d .away .0 .0) e in
           let gs : All (Follow y) (x ∷ xs) = (g, all-imp (Follow x) (Follow y) xs (λ m k. follow-trans y x m v g k) (d .first-apart .0)) in
-          rw (e, weave)
+          rw (e, insert)
           (ap (_++_ (f y)) ih
           ∙ sym (merge-seconds (f y) (gather f (x ∷ xs)) (gather f ys) (parts-before y (x ∷ xs) w (d .long-first) gs)))
 
   sides-merge : (xs ys : List Note) → Sides xs ys → Merges xs ys
   unfolding merge
   sides-merge [] ys d = refl
-  sides-merge (x ∷ xs) ys d = weave-cut x xs (λ zs c. sides-merge xs zs c) ys d
+  sides-merge (x ∷ xs) ys d = insert-cut x xs (λ zs c. sides-merge xs zs c) ys d
 
   -- the parts of two merged lists are their parts, merged
   pub gather-merge : (xs ys : List Note) → All Long xs → All Long ys → Pairs Follow xs → Pairs Follow ys → All (λ x. All (Away x) ys) xs

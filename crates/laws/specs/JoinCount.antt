@@ -2,7 +2,7 @@
 -- cells there that stands alone. Only the cells are read for it. Assumes nothing.
 use mathlib.Core.Bool.{Bool, _&&_, false, not, true}
 use mathlib.Core.List.{List, [], _++_, _∷_}
-use mathlib.Core.Path.{_∙_, _≡_, ap, refl, subst, sym}
+use mathlib.Core.Path.{_≡_, ap, refl, subst}
 use Prim.Native.Nat.{_+_, _<_, _≤_, min, suc, zero, ℕ}
 use native.Mathlib.Omega.{arith}
 use lib.ListN.{length, length-append}
@@ -13,9 +13,8 @@ use Rattle.model.specs.declared.Cell.{Cell}
 use Rattle.model.specs.declared.Header.{Header}
 use Rattle.model.specs.declared.Note.{Note}
 use Rattle.laws.specs.JoinLanes.{join-lane-is, one-lane}
-use Rattle.laws.specs.JoinWalk.{From, below-none, cellRest, cellRun, gather-first, keep-rest, keep-run, rest-from, restOf, runOf}
+use Rattle.laws.specs.JoinWalk.{From, cellRest, cellRun, each-none, each-step, only-cells}
 use Rattle.laws.specs.Joined.{OneLane, lane-length}
-use Rattle.laws.specs.Lists.{gather-none}
 use Rattle.laws.specs.Moving.{solid-join}
 use Rattle.laws.specs.Seam.{boundAt, lone, one, seamOf}
 use Rattle.laws.specs.SeamLanes.{cellsAt, laneOf, notes-lanes}
@@ -35,9 +34,6 @@ neither H p = not (standsAlone H (p .0)) && not (standsAlone H (p .1))
 module _ (H : Header) (k : ℕ) where
   -- ---- lane by lane
 
-  seam-same : {cs ds es fs : List Cell} → cs ≡ es → ds ≡ fs → seamOf H k cs ds ≡ seamOf H k es fs
-  seam-same a b = λ i. seamOf H k (a i) (b i)
-
   seam-none : seamOf H k [] [] ≡ []
   unfolding seamOf
   seam-none = refl
@@ -45,23 +41,13 @@ module _ (H : Header) (k : ℕ) where
   -- without cells there are no pairs
   pub seams-none : seams H k [] [] ≡ []
   unfolding seams
-  seams-none = gather-none (λ l. seamOf H k [] []) 2048 0 (λ l a. seam-none)
+  seams-none = each-none (λ ms cs ns ds. seamOf H k cs ds) seam-none
 
   -- the pairs are that of lane l in front, and then those of what stands behind it
   pub seams-step : (l : ℕ) (cs ds : List Cell) → l < 2048 → From (λ c. c .lane) l cs → From (λ c. c .lane) l ds
       → seams H k cs ds ≡ seamOf H k (cellRun l cs) (cellRun l ds) ++ seams H k (cellRest l cs) (cellRest l ds)
   unfolding seams
-  seams-step l cs ds b f g =
-      gather-first (λ m. seamOf H k (cellsAt m cs) (cellsAt m ds)) later-at 2048 0 l (omega arith) (omega arith)
-      (λ m h. seam-same (below-none (λ c. c .lane) l m cs h f) (below-none (λ c. c .lane) l m ds h g) ∙ seam-none)
-      (λ m h. seam-same
-      (below-none (λ c. c .lane) (suc l) m (cellRest l cs) (omega arith) (rest-from (λ c. c .lane) l cs f))
-      (below-none (λ c. c .lane) (suc l) m (cellRest l ds) (omega arith) (rest-from (λ c. c .lane) l ds g)) ∙ seam-none)
-      (λ m h. sym (seam-same (keep-rest (λ c. c .lane) l m cs h) (keep-rest (λ c. c .lane) l m ds h)))
-      ∙ ap (λ (ps : List (Cell × Cell)). ps ++ gather later-at lanes) (seam-same (keep-run (λ c. c .lane) l cs f) (keep-run (λ c. c .lane) l ds g))
-    where
-      later-at : ℕ → List (Cell × Cell)
-      later-at m = seamOf H k (cellsAt m (cellRest l cs)) (cellsAt m (cellRest l ds))
+  seams-step l cs ds b f g = each-step (λ ms cs ns ds. seamOf H k cs ds) seam-none l [] cs [] ds b (only-cells l cs ds f g)
 
   -- a lane has at most one pair, and none without cells
   seam-few : (cs ds : List Cell) → length (seamOf H k cs ds) ≤ min (length cs) (length ds)

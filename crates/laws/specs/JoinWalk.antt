@@ -2,12 +2,12 @@
 -- Assumes nothing.
 use mathlib.Core.Bool.{Bool, cond, false, true, true≢false}
 use mathlib.Core.List.{List, [], _++_, _∷_}
-use mathlib.Core.Path.{_∙_, _≡_, ap, ap₂, refl, sym}
+use mathlib.Core.Path.{_∙_, _≡_, ap, refl, sym}
 use Prim.Native.Nat.{_+_, _<_, _≤_, min, suc, zero, ℕ}
-use native.Mathlib.Decide.{ℕ-discrete, decLe}
+use native.Mathlib.Decide.{ℕ-discrete}
 use native.Mathlib.Omega.{arith}
 use lib.Dec.{eqb, leb}
-use borrow.Author.Tests.{eq-eqb, eqb-true, le-leb, leb-false, leb-true, lt-leb, ne-eqb}
+use borrow.Author.Tests.{eq-eqb, eqb-true, leb-false, leb-true, ne-eqb}
 use Rattle.model.specs.Lists.{consIf, countFrom, gather, keep}
 use Rattle.model.specs.Takes.{Take, joinTakes, lanes, notesOf}
 use Rattle.model.specs.declared.Cell.{Cell}
@@ -55,12 +55,8 @@ module _ {A : Type 0} (lane : A → ℕ) where
     pub above : All (λ x. l ≤ lane x) xs
     pub below : All (λ x. lane x < 2048) xs
 
-  pub from-tail : (l : ℕ) (x : A) (xs : List A) → From l (x ∷ xs) → From l xs
+  from-tail : (l : ℕ) (x : A) (xs : List A) → From l (x ∷ xs) → From l xs
   from-tail l x xs f = record { sorted = f .sorted .1; above = f .above .1; below = f .below .1 }
-
-  -- from a lower lane on
-  pub from-lower : (l m : ℕ) (xs : List A) → m ≤ l → From l xs → From m xs
-  from-lower l m xs h f = record { sorted = f .sorted; above = all-imp (λ x. l ≤ lane x) (λ x. m ≤ lane x) xs (λ x a. omega arith) (f .above); below = f .below }
 
   -- the first is of a higher lane, so that all are
   higher : (l : ℕ) (x : A) (xs : List A) → From l (x ∷ xs) → (lane x ≡ l → ⊥) → All (λ y. suc l ≤ lane y) (x ∷ xs)
@@ -94,7 +90,7 @@ module _ {A : Type 0} (lane : A → ℕ) where
       go false e ih = record { sorted = f .sorted; above = higher l x xs f (λ h. true≢false (sym (eq-eqb (lane x) l h) ∙ e)); below = f .below }
 
   -- a higher lane is as it was
-  pub keep-rest : (l m : ℕ) (xs : List A) → l < m → keep (λ x. eqb (lane x) m) (restOf l xs) ≡ keep (λ x. eqb (lane x) m) xs
+  keep-rest : (l m : ℕ) (xs : List A) → l < m → keep (λ x. eqb (lane x) m) (restOf l xs) ≡ keep (λ x. eqb (lane x) m) xs
   unfolding restOf
   keep-rest l m [] h = refl
   keep-rest l m (x ∷ xs) h = go (eqb (lane x) l) refl (keep-rest l m xs h)
@@ -104,7 +100,7 @@ module _ {A : Type 0} (lane : A → ℕ) where
       go true e ih = let i : lane x ≡ l = eqb-true (lane x) l e in rw (ne-eqb (lane x) m (omega arith)) ih
       go false e ih = refl
 
-  pub below-none : (l m : ℕ) (xs : List A) → m < l → From l xs → keep (λ x. eqb (lane x) m) xs ≡ []
+  below-none : (l m : ℕ) (xs : List A) → m < l → From l xs → keep (λ x. eqb (lane x) m) xs ≡ []
   below-none l m xs h f = none-at m xs (all-imp (λ y. l ≤ lane y) (λ y. suc m ≤ lane y) xs (λ y a. omega arith) (f .above))
 
 -- The notes of lane l in front and those behind them; and the cells.
@@ -121,7 +117,7 @@ abbrev pub cellRest : ℕ → List Cell → List Cell
 cellRest = restOf (λ c. c .lane)
 
 -- over counted numbers: nothing before l, at l what the one has, behind l what the other has
-pub gather-first : {B : Type 0} (f g : ℕ → List B) (n i l : ℕ) → i ≤ l → l < i + n → ((k : ℕ) → k < l → f k ≡ []) → ((k : ℕ) → k ≤ l → g k ≡ [])
+gather-first : {B : Type 0} (f g : ℕ → List B) (n i l : ℕ) → i ≤ l → l < i + n → ((k : ℕ) → k < l → f k ≡ []) → ((k : ℕ) → k ≤ l → g k ≡ [])
     → ((k : ℕ) → l < k → f k ≡ g k) → gather f (countFrom n i) ≡ f l ++ gather g (countFrom n i)
 gather-first f g zero i l a b p q r = absurd (omega arith)
 gather-first f g (suc n) i l a b p q r = elim (ℕ-discrete i l) [
@@ -174,45 +170,6 @@ module _ {A : Type 0} (lane : A → ℕ) where
   ahead-above i [] h f = h
   ahead-above i (x ∷ xs) h f = f .above .0
 
-module _ (H : Header) (k : ℕ) where
-  lane-none : joinLane H k [] [] [] [] ≡ []
-  unfolding joinLane
-  lane-none = refl
-
-  lane-same : {ms ns xs ys : List Note} {cs ds es gs : List Cell} → ms ≡ xs → cs ≡ es → ns ≡ ys → ds ≡ gs
-      → joinLane H k ms cs ns ds ≡ joinLane H k xs es ys gs
-  lane-same a b c d = λ i. joinLane H k (a i) (b i) (c i) (d i)
-
-  -- nothing of nothing
-  pub join-none : joinLanes H k [] [] [] [] ≡ []
-  unfolding joinLanes
-  join-none = gather-none (λ l. joinLane H k [] [] [] []) 2048 0 (λ l a. lane-none)
-
-  -- the notes of the lists are those of lane l in front, and then those of what stands behind it
-  pub join-step : (l : ℕ) (ms : List Note) (cs : List Cell) (ns : List Note) (ds : List Cell) → l < 2048 → Four l ms cs ns ds
-      → joinLanes H k ms cs ns ds
-      ≡ joinLane H k (noteRun l ms) (cellRun l cs) (noteRun l ns) (cellRun l ds)
-      ++ joinLanes H k (noteRest l ms) (cellRest l cs) (noteRest l ns) (cellRest l ds)
-  unfolding joinLanes
-  join-step l ms cs ns ds b f =
-      gather-first at later-at 2048 0 l (omega arith) (omega arith)
-      (λ m h. lane-same (below-none (λ n. n .lane) l m ms h (f .first-notes)) (below-none (λ c. c .lane) l m cs h (f .first-cells))
-      (below-none (λ n. n .lane) l m ns h (f .second-notes)) (below-none (λ c. c .lane) l m ds h (f .second-cells)) ∙ lane-none)
-      (λ m h. lane-same
-      (below-none (λ n. n .lane) (suc l) m (noteRest l ms) (omega arith) (rest-from (λ n. n .lane) l ms (f .first-notes)))
-      (below-none (λ c. c .lane) (suc l) m (cellRest l cs) (omega arith) (rest-from (λ c. c .lane) l cs (f .first-cells)))
-      (below-none (λ n. n .lane) (suc l) m (noteRest l ns) (omega arith) (rest-from (λ n. n .lane) l ns (f .second-notes)))
-      (below-none (λ c. c .lane) (suc l) m (cellRest l ds) (omega arith) (rest-from (λ c. c .lane) l ds (f .second-cells))) ∙ lane-none)
-      (λ m h. sym (lane-same (keep-rest (λ n. n .lane) l m ms h) (keep-rest (λ c. c .lane) l m cs h) (keep-rest (λ n. n .lane) l m ns h) (keep-rest (λ c. c .lane) l m ds h)))
-      ∙ ap (λ (xs : List Note). xs ++ gather later-at lanes)
-      (lane-same (keep-run (λ n. n .lane) l ms (f .first-notes)) (keep-run (λ c. c .lane) l cs (f .first-cells)) (keep-run (λ n. n .lane) l ns (f .second-notes)) (keep-run (λ c. c .lane) l ds (f .second-cells)))
-    where
-      at : ℕ → List Note
-      at m = joinLane H k (notesAt m ms) (cellsAt m cs) (notesAt m ns) (cellsAt m ds)
-
-      later-at : ℕ → List Note
-      later-at m = joinLane H k (notesAt m (noteRest l ms)) (cellsAt m (cellRest l cs)) (notesAt m (noteRest l ns)) (cellsAt m (cellRest l ds))
-
 -- what stands behind a lane
 pub four-rest : (l : ℕ) (ms : List Note) (cs : List Cell) (ns : List Note) (ds : List Cell) → Four l ms cs ns ds
     → Four (suc l) (noteRest l ms) (cellRest l cs) (noteRest l ns) (cellRest l ds)
@@ -222,6 +179,63 @@ four-rest l ms cs ns ds f = record {
   second-notes = rest-from (λ n. n .lane) l ns (f .second-notes);
   second-cells = rest-from (λ c. c .lane) l ds (f .second-cells);
 }
+
+-- Cells alone.
+pub only-cells : (l : ℕ) (cs ds : List Cell) → From (λ c. c .lane) l cs → From (λ c. c .lane) l ds → Four l [] cs [] ds
+only-cells l cs ds f g =
+    record { first-notes = record { sorted = tt; above = tt; below = tt }; first-cells = f; second-notes = record { sorted = tt; above = tt; below = tt }; second-cells = g }
+
+-- ---- lane by lane
+
+-- F gives from one lane of each of the lists; nothing from nothing.
+module _ {B : Type 0} (F : List Note → List Cell → List Note → List Cell → List B) (none : F [] [] [] [] ≡ []) where
+  -- What it gives from all lanes, one after the other.
+  abbrev pub eachLane : List Note → List Cell → List Note → List Cell → List B
+  eachLane ms cs ns ds = gather (λ l. F (notesAt l ms) (cellsAt l cs) (notesAt l ns) (cellsAt l ds)) lanes
+
+  pub each-none : eachLane [] [] [] [] ≡ []
+  each-none = gather-none (λ l. F [] [] [] []) 2048 0 (λ l a. none)
+
+  one-same : {ms ns xs ys : List Note} {cs ds es gs : List Cell} → ms ≡ xs → cs ≡ es → ns ≡ ys → ds ≡ gs → F ms cs ns ds ≡ F xs es ys gs
+  one-same a b c d = λ i. F (a i) (b i) (c i) (d i)
+
+  one-none : (l m : ℕ) (ms : List Note) (cs : List Cell) (ns : List Note) (ds : List Cell) → m < l → Four l ms cs ns ds
+      → F (notesAt m ms) (cellsAt m cs) (notesAt m ns) (cellsAt m ds) ≡ []
+  one-none l m ms cs ns ds h f =
+      one-same (below-none (λ n. n .lane) l m ms h (f .first-notes)) (below-none (λ c. c .lane) l m cs h (f .first-cells))
+      (below-none (λ n. n .lane) l m ns h (f .second-notes)) (below-none (λ c. c .lane) l m ds h (f .second-cells)) ∙ none
+
+  -- it is what it gives from lane l in front, and then from what stands behind it
+  pub each-step : (l : ℕ) (ms : List Note) (cs : List Cell) (ns : List Note) (ds : List Cell) → l < 2048 → Four l ms cs ns ds
+      → eachLane ms cs ns ds
+      ≡ F (noteRun l ms) (cellRun l cs) (noteRun l ns) (cellRun l ds) ++ eachLane (noteRest l ms) (cellRest l cs) (noteRest l ns) (cellRest l ds)
+  each-step l ms cs ns ds b f =
+      let later-at : ℕ → List B = λ m. F (notesAt m (noteRest l ms)) (cellsAt m (cellRest l cs)) (notesAt m (noteRest l ns)) (cellsAt m (cellRest l ds)) in
+      gather-first (λ m. F (notesAt m ms) (cellsAt m cs) (notesAt m ns) (cellsAt m ds)) later-at 2048 0 l (omega arith) (omega arith)
+      (λ m h. one-none l m ms cs ns ds h f)
+      (λ m h. one-none (suc l) m (noteRest l ms) (cellRest l cs) (noteRest l ns) (cellRest l ds) (omega arith) (four-rest l ms cs ns ds f))
+      (λ m h. sym (one-same (keep-rest (λ n. n .lane) l m ms h) (keep-rest (λ c. c .lane) l m cs h) (keep-rest (λ n. n .lane) l m ns h) (keep-rest (λ c. c .lane) l m ds h)))
+      ∙ ap (λ (xs : List B). xs ++ gather later-at lanes)
+      (one-same (keep-run (λ n. n .lane) l ms (f .first-notes)) (keep-run (λ c. c .lane) l cs (f .first-cells)) (keep-run (λ n. n .lane) l ns (f .second-notes)) (keep-run (λ c. c .lane) l ds (f .second-cells)))
+
+-- ---- the notes of a join
+
+module _ (H : Header) (k : ℕ) where
+  lane-none : joinLane H k [] [] [] [] ≡ []
+  unfolding joinLane
+  lane-none = refl
+
+  -- nothing of nothing
+  pub join-none : joinLanes H k [] [] [] [] ≡ []
+  unfolding joinLanes
+  join-none = each-none (joinLane H k) lane-none
+
+  -- the notes of the lists are those of lane l in front, and then those of what stands behind it
+  pub join-step : (l : ℕ) (ms : List Note) (cs : List Cell) (ns : List Note) (ds : List Cell) → l < 2048 → Four l ms cs ns ds
+      → joinLanes H k ms cs ns ds
+      ≡ joinLane H k (noteRun l ms) (cellRun l cs) (noteRun l ns) (cellRun l ds) ++ joinLanes H k (noteRest l ms) (cellRest l cs) (noteRest l ns) (cellRest l ds)
+  unfolding joinLanes
+  join-step l ms cs ns ds b f = each-step (joinLane H k) lane-none l ms cs ns ds b f
 
 module _ (i : ℕ) (ms : List Note) (cs : List Cell) (ns : List Note) (ds : List Cell) (f : Four i ms cs ns ds) where
   -- the lists are from the least lane in front on

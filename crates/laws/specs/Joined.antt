@@ -1,15 +1,15 @@
--- The notes of a join of two solid takes, lane by lane: those of both, and at the seam what the binding rules decide.
+-- The notes of two solid takes of one lane, one behind the other: those of both, and on the line between them what the binding rules decide.
 -- Assumes nothing.
-use mathlib.Core.Bool.{Bool, cond, false, true, true≢false}
+use mathlib.Core.Bool.{Bool, false, true}
 use mathlib.Core.List.{List, [], _++_, _∷_, append-nil, map}
-use mathlib.Core.Path.{_∙_, _≡_, ap, ap₂, refl, subst, sym}
-use Prim.Native.Nat.{_*_, _+_, _-_, _<_, _≤_, suc, ℕ}
+use mathlib.Core.Path.{_∙_, _≡_, ap, ap₂, refl, sym}
+use Prim.Native.Nat.{_*_, _+_, _<_, _≤_, suc, ℕ}
 use native.Mathlib.Omega.{arith}
 use lib.ListN.{length, length-append}
 use borrow.Author.Tests.{eq-eqb, ne-eqb}
 use Rattle.model.specs.Binding.{boundNext, lineNotes, standsAlone}
-use Rattle.model.specs.Lists.{consIf, gather, keep}
-use Rattle.model.specs.Takes.{Take, joinTakes, merge, notesOf}
+use Rattle.model.specs.Lists.{consIf}
+use Rattle.model.specs.Takes.{Take, merge, notesOf}
 use Rattle.model.specs.declared.Cell.{Cell}
 use Rattle.model.specs.declared.Header.{Header}
 use Rattle.model.specs.declared.Note.{Note}
@@ -19,11 +19,10 @@ use Rattle.laws.specs.Merging.{merge-second}
 use Rattle.laws.specs.Notes.{Away, Before, Fair, Follow, Long, above, before, later, left, right}
 use Rattle.laws.specs.Order.{aways, walk-fair}
 use Rattle.laws.specs.Partners.{all-parts}
-use Rattle.laws.specs.Relations.{All, all-append, all-imp}
-use Rattle.laws.specs.Rules.{own}
-use Rattle.laws.specs.Seam.{AtLine, at-line, bound-at, boundAt, butFirst, butLast, butLast-append, endingAt, firstOr, fromOn, joinApart, joinLane, joinOver, last-all, last-append, lone, one, own-ending, own-starting, seamOf, startingAt0, upTo}
+use Rattle.laws.specs.Relations.{All, all-consIf, all-imp}
+use Rattle.laws.specs.Seam.{AtLine, EndsAt, StartsAt0, at-line, bound-at, boundAt, butLast-append, endingAt, joinApart, joinLane, joinOver, last-append, line-end, line-start, lone, one, own-ending, own-starting, seamOf, startingAt0}
 use Rattle.laws.specs.SeamLanes.{AllBefore, CellsOn, NotesOn, merge-apart, merge-later, notes-walk, walk-lane}
-use Rattle.laws.specs.SeamWalk.{Free, Goes, Opened, cellLater, lastOr, noteLater, opened, walk-bound, walk-free, walk-later}
+use Rattle.laws.specs.SeamWalk.{Free, Goes, Opened, cellLater, last-all, lastOr, noteLater, opened, walk-bound, walk-free, walk-later}
 use Rattle.laws.specs.Solid.{Fine, Solid}
 use Rattle.laws.specs.Walk.{line-walk, walk}
 
@@ -43,10 +42,13 @@ pub record OneLane (δ l : ℕ) (t : Take) : Type 0 where
   pub notes-there : NotesOn l (t .inner)
   pub cells-there : CellsOn l (t .cells)
 
--- A note goes over the line, from t, where c is its cell, to u, where d is: what the notes of both are then, and how many.
+-- A note goes over the line, from t, where c is its cell, to u, where d is: what the notes of both are then, and how many; it is t's last
+-- note if c stands alone, and u's first if d does.
 pub record Crossed (H : Header) (t u : Take) (c d : Cell) : Type 0 where
   pub notes-are : notesOf H (behind (H .delta) t u) ≡ joinOver H (t .beats * H .delta) c d (notesOf H t) (notesOf H u)
   pub length-is : length (notesOf H (behind (H .delta) t u)) + (one (standsAlone H c) + one (standsAlone H d)) ≡ length (notesOf H t) + length (notesOf H u) + 1
+  pub last-ends : standsAlone H c ≡ true → EndsAt (t .beats * H .delta) (notesOf H t)
+  pub first-starts : standsAlone H d ≡ true → StartsAt0 (notesOf H u)
 
 module _ (H : Header) (z : 0 < (H .delta)) (le : (H .epsilon) ≤ (H .delta)) (l : ℕ) (t u : Take)
     (p : OneLane (H .delta) l t) (q : OneLane (H .delta) l u) (w : OneLane (H .delta) l (behind (H .delta) t u)) where
@@ -239,13 +241,16 @@ module _ (H : Header) (z : 0 < (H .delta)) (le : (H .epsilon) ≤ (H .delta)) (l
         go false false = simp (length-append, length-map) (omega arith)
 
   crossed : (fs : List Note) (x m : Note) (ms : List Note) (c d : Cell) → Over fs x m ms (standsAlone H c) (standsAlone H d)
+      → x .end ≡ tick → m .start ≡ 0
       → (standsAlone H c ≡ false → x ≡ endingAt tick c) → (standsAlone H d ≡ false → m ≡ startingAt0 d) → Crossed H t u c d
-  crossed fs x m ms c d o g h =
+  crossed fs x m ms c d o i k g h =
       let a = standsAlone H c in
       let b = standsAlone H d in
       record {
         notes-are = over-join fs x m ms a b o c d refl refl g h;
         length-is = over-length fs x m ms a b o;
+        last-ends = λ e. record { front = merge (t .inner) fs; note = x; notes-are = over-first fs x m ms a b o ∙ rw e; end-is = i };
+        first-starts = λ e. record { note = m; rest = merge (u .inner) ms; notes-are = over-second fs x m ms a b o ∙ rw e; start-is = k };
       }
 
 -- A take from its parts.
@@ -285,7 +290,7 @@ module _ (H : Header) (z : 0 < (H .delta)) (le : (H .epsilon) ≤ (H .delta)) (l
           second-ends = (rw (o .held) at (walk-fair H m z (v .cells-pieced) (v .cells-fine) (v .cells-apart) true)) .0 .order;
           second-on = rw (o .held) at (walk-lane H l (d ∷ ds) true (s .second .cells-there));
         } in
-        crossed H z le l (takeWith n ti (c ∷ cs)) (takeWith m ui (d ∷ ds)) (s .first) (s .second) (s .both) (g .front) (g .note) (o .note) (o .rest) x d o' (λ i. g .short i ∙ own-ending H n x d line) (λ i. o .short i ∙ own-starting H n x d line)
+        crossed H z le l (takeWith n ti (c ∷ cs)) (takeWith m ui (d ∷ ds)) (s .first) (s .second) (s .both) (g .front) (g .note) (o .note) (o .rest) x d o' (g .end-is ∙ line-end H n x d line) (o .start-is ∙ line-start H n x d line) (λ i. g .short i ∙ own-ending H n x d line) (λ i. o .short i ∙ own-starting H n x d line)
       where
         starts : (a : Bool) → standsAlone H x ≡ a → walk H false (c ∷ cs) ≡ g .front ++ consIf a (g .note) [] → (g .note) .start < n * H .delta
         starts true e w =
@@ -336,6 +341,14 @@ module _ (H : Header) (z : 0 < (H .delta)) (le : (H .epsilon) ≤ (H .delta)) (l
       go true e = let k = (over-law c cs d ds s e) .length-is in unfold lone in omega arith
       go false e = apart-length (c ∷ cs) (d ∷ ds) s (is-bound c cs d ds s ∙ e)
 
+  -- the cells that are bound over the line are those of a note that goes over it
+  crossed-cases : (cs ds : List Cell) → Lanes cs ds → All (λ p. Crossed H (takeWith n ti cs) (takeWith m ui ds) (p .0) (p .1)) (seamOf H n cs ds)
+  unfolding seamOf
+  crossed-cases [] ds s = tt
+  crossed-cases (c ∷ cs) [] s = tt
+  crossed-cases (c ∷ cs) (d ∷ ds) s =
+      all-consIf (λ p. Crossed H (takeWith n ti (c ∷ cs)) (takeWith m ui (d ∷ ds)) (p .0) (p .1)) (boundAt H n (lastOr c cs) d) (lastOr c cs, d) [] (λ e. over-law c cs d ds s e) tt
+
 -- the notes of two takes of one lane, one behind the other
 pub lane-join : (H : Header) → 0 < H .delta → H .epsilon ≤ H .delta → (l : ℕ) (t u : Take) → OneLane (H .delta) l t → OneLane (H .delta) l u
     → OneLane (H .delta) l (behind (H .delta) t u) → notesOf H (behind (H .delta) t u) ≡ joinLane H (t .beats) (notesOf H t) (t .cells) (notesOf H u) (u .cells)
@@ -345,3 +358,8 @@ lane-join H z le l t u p q w = lane-cases H z le l (t .beats) (t .inner) (u .bea
 pub lane-length : (H : Header) → 0 < H .delta → H .epsilon ≤ H .delta → (l : ℕ) (t u : Take) → OneLane (H .delta) l t → OneLane (H .delta) l u
     → OneLane (H .delta) l (behind (H .delta) t u) → length (notesOf H (behind (H .delta) t u)) + lone H (seamOf H (t .beats) (t .cells) (u .cells)) ≡ length (notesOf H t) + length (notesOf H u) + length (seamOf H (t .beats) (t .cells) (u .cells))
 lane-length H z le l t u p q w = length-cases H z le l (t .beats) (t .inner) (u .beats) (u .inner) (t .cells) (u .cells) (record { first = p; second = q; both = w })
+
+-- the cells that are bound over the line are those of a note that goes over it
+pub lane-crossed : (H : Header) → 0 < H .delta → H .epsilon ≤ H .delta → (l : ℕ) (t u : Take) → OneLane (H .delta) l t → OneLane (H .delta) l u
+    → OneLane (H .delta) l (behind (H .delta) t u) → All (λ p. Crossed H t u (p .0) (p .1)) (seamOf H (t .beats) (t .cells) (u .cells))
+lane-crossed H z le l t u p q w = crossed-cases H z le l (t .beats) (t .inner) (u .beats) (u .inner) (t .cells) (u .cells) (record { first = p; second = q; both = w })

@@ -55,15 +55,15 @@ module _ {A : Type 0} (lane : A → ℕ) where
 
 module _ {A : Type 0} (lane : A → ℕ) where
   -- x before the second list's elements of higher lanes, and from there on `more`
-  unfoldable pub weaveLane : A → (List A → List A) → List A → List A
-  weaveLane x more [] = x ∷ more []
-  weaveLane x more (y ∷ ys) = elim (leb (lane x) (lane y)) [ true ↦ x ∷ more (y ∷ ys) | false ↦ y ∷ weaveLane x more ys ]
+  unfoldable pub insertLane : A → (List A → List A) → List A → List A
+  insertLane x more [] = x ∷ more []
+  insertLane x more (y ∷ ys) = elim (leb (lane x) (lane y)) [ true ↦ x ∷ more (y ∷ ys) | false ↦ y ∷ insertLane x more ys ]
 
   -- Two lists in the order of lanes as one: the first's elements first in each lane.
   unfoldable pub mergeLane : List A → List A → List A
-  unfolding weaveLane
+  unfolding insertLane
   mergeLane [] ys = ys
-  mergeLane (x ∷ xs) ys = weaveLane x (λ zs. mergeLane xs zs) ys
+  mergeLane (x ∷ xs) ys = insertLane x (λ zs. mergeLane xs zs) ys
 
   abbrev Lanes : List A → Type 0
   Lanes xs = Pairs (λ x y. lane x ≤ lane y) xs × All (λ x. lane x < 2048) xs
@@ -95,28 +95,28 @@ module _ {A : Type 0} (lane : A → ℕ) where
   all-above : (x : A) (y : A) (ys : List A) → lane x ≤ lane y → All (λ z. lane y ≤ lane z) ys → All (λ z. lane x ≤ lane z) (y ∷ ys)
   all-above x y ys h a = (h, all-imp (λ z. lane y ≤ lane z) (λ z. lane x ≤ lane z) ys (λ z b. omega arith) a)
 
-  weave-is : (x : A) (xs : List A) → Lanes (x ∷ xs) → ((ys : List A) → Lanes ys → mergeLane xs ys ≡ byLane lane (xs ++ ys))
-      → (ys : List A) → Lanes ys → weaveLane x (λ zs. mergeLane xs zs) ys ≡ byLane lane (x ∷ (xs ++ ys))
-  unfolding weaveLane
-  weave-is x xs s f [] t = ap (_∷_ x) (f [] t) ∙ sym (first-lane x (xs ++ []) (s .1 .0) (rw append-nil (s .0 .0)))
-  weave-is x xs s f (y ∷ ys) t = go (leb (lane x) (lane y)) refl (weave-is x xs s f ys (t .0 .1, t .1 .1))
+  insert-is : (x : A) (xs : List A) → Lanes (x ∷ xs) → ((ys : List A) → Lanes ys → mergeLane xs ys ≡ byLane lane (xs ++ ys))
+      → (ys : List A) → Lanes ys → insertLane x (λ zs. mergeLane xs zs) ys ≡ byLane lane (x ∷ (xs ++ ys))
+  unfolding insertLane
+  insert-is x xs s f [] t = ap (_∷_ x) (f [] t) ∙ sym (first-lane x (xs ++ []) (s .1 .0) (rw append-nil (s .0 .0)))
+  insert-is x xs s f (y ∷ ys) t = go (leb (lane x) (lane y)) refl (insert-is x xs s f ys (t .0 .1, t .1 .1))
     where
-      go : (b : Bool) → leb (lane x) (lane y) ≡ b → weaveLane x (λ zs. mergeLane xs zs) ys ≡ byLane lane (x ∷ (xs ++ ys))
-          → weaveLane x (λ zs. mergeLane xs zs) (y ∷ ys) ≡ byLane lane (x ∷ (xs ++ y ∷ ys))
+      go : (b : Bool) → leb (lane x) (lane y) ≡ b → insertLane x (λ zs. mergeLane xs zs) ys ≡ byLane lane (x ∷ (xs ++ ys))
+          → insertLane x (λ zs. mergeLane xs zs) (y ∷ ys) ≡ byLane lane (x ∷ (xs ++ y ∷ ys))
       go true e ih =
           let h : lane x ≤ lane y = leb-true (lane x) (lane y) e in
-          rw (e, weaveLane) (ap (_∷_ x) (f (y ∷ ys) t)
+          rw (e, insertLane) (ap (_∷_ x) (f (y ∷ ys) t)
           ∙ sym (first-lane x (xs ++ y ∷ ys) (s .1 .0) (all-append (λ z. lane x ≤ lane z) xs (y ∷ ys) (s .0 .0) (all-above x y ys h (t .0 .0)))))
       go false e ih =
           let h : lane y < lane x = leb-false (lane x) (lane y) e in
-          rw (e, weaveLane) (ap (_∷_ y) ih ∙ sym (front (x ∷ xs) y ys (h, all-imp (λ z. lane x ≤ lane z) (λ z. lane y < lane z) xs (λ z b. omega arith) (s .0 .0))
+          rw (e, insertLane) (ap (_∷_ y) ih ∙ sym (front (x ∷ xs) y ys (h, all-imp (λ z. lane x ≤ lane z) (λ z. lane y < lane z) xs (λ z b. omega arith) (s .0 .0))
           ∙ first-lane y (x ∷ (xs ++ ys)) (t .1 .0) (all-append (λ z. lane y ≤ lane z) (x ∷ xs) ys (all-above y x xs (omega arith) (s .0 .0)) (t .0 .0))))
 
   -- two lists in the order of lanes, joined, are one walk over both
   pub merge-lane : (xs ys : List A) → Lanes xs → Lanes ys → mergeLane xs ys ≡ byLane lane (xs ++ ys)
   unfolding mergeLane
   merge-lane [] ys s t = sym (sorted-byLane ys t)
-  merge-lane (x ∷ xs) ys s t = weave-is x xs s (λ zs u. merge-lane xs zs (s .0 .1, s .1 .1) u) ys t
+  merge-lane (x ∷ xs) ys s t = insert-is x xs s (λ zs u. merge-lane xs zs (s .0 .1, s .1 .1) u) ys t
 
 module _ {A : Type 0} where
   pub all-both : (P Q : A → Type 0) (xs : List A) → All P xs → All Q xs → All (λ x. P x × Q x) xs

@@ -49,3 +49,4 @@ pub mod Joined
 pub mod JoinLanes
 pub mod JoinWalk
 pub mod JoinCount
+pub mod JoinShelf

@@ -1,14 +1,15 @@
--- What a join does with the notes of one lane: it copies them, and at the seam the binding rules decide. That it is so: Joined.
+-- What a join does with the notes of one lane: it copies them, and only on the line between the takes the binding rules decide. That it is so:
+-- Joined for one lane, JoinLanes for all.
 -- Assumes nothing.
 use mathlib.Core.Bool.{Bool, _&&_, cond, false, true}
 use mathlib.Core.List.{List, [], _++_, _∷_, map}
 use mathlib.Core.Path.{_≡_, ap, refl}
-use Prim.Native.Nat.{_*_, _+_, _-_, _<_, _≤_, suc, ℕ}
+use Prim.Native.Nat.{_*_, _+_, _-_, _<_, suc, ℕ}
 use native.Mathlib.Decide.{ℕ-discrete}
 use native.Mathlib.Omega.{arith}
 use lib.Dec.{eqb}
 use borrow.Author.Tests.{eq-eqb, eqb-true, ne-eqb}
-use Rattle.model.specs.Binding.{bound, boundNext, endOf, meet, opening, standsAlone, startOf}
+use Rattle.model.specs.Binding.{bound, boundNext, endOf, meet, standsAlone, startOf}
 use Rattle.model.specs.Lists.{consIf}
 use Rattle.model.specs.declared.Cell.{Cell}
 use Rattle.model.specs.declared.Header.{Header}
@@ -16,7 +17,6 @@ use Rattle.model.specs.declared.Note.{Note}
 use Rattle.laws.specs.Booleans.{and-left, and-right}
 use Rattle.laws.specs.CutLines.{joined}
 use Rattle.laws.specs.Notes.{note-same}
-use Rattle.laws.specs.Relations.{All}
 use Rattle.laws.specs.Rules.{moved-bound, own}
 use Rattle.laws.specs.SeamWalk.{cellLater, lastOr, noteLater}
 
@@ -46,11 +46,6 @@ module _ {A : Type 0} where
   butLast-append [] x = refl
   butLast-append (y ∷ []) x = refl
   butLast-append (y ∷ w ∷ ws) x = rw (butLast-append (w ∷ ws) x)
-
-  -- what holds of all holds of the last
-  pub last-all : (P : A → Type 0) (x : A) (xs : List A) → All P (x ∷ xs) → P (lastOr x xs)
-  last-all P x [] a = a .0
-  last-all P x (y ∷ ys) a = last-all P y ys (a .1)
 
 -- ---- one lane
 
@@ -109,6 +104,19 @@ unfolding standsAlone
 lone H [] = 0
 lone H (p ∷ ps) = one (standsAlone H (p .0)) + one (standsAlone H (p .1)) + lone H ps
 
+-- The last of the notes ends at tick s, and the first starts at tick 0.
+pub record EndsAt (s : ℕ) (ns : List Note) : Type 0 where
+  pub front : List Note
+  pub note : Note
+  pub notes-are : ns ≡ front ++ note ∷ []
+  pub end-is : note .end ≡ s
+
+pub record StartsAt0 (ns : List Note) : Type 0 where
+  pub note : Note
+  pub rest : List Note
+  pub notes-are : ns ≡ note ∷ rest
+  pub start-is : note .start ≡ 0
+
 -- ---- the cells on the line
 
 module _ (H : Header) (k : ℕ) (c d : Cell) where
@@ -158,6 +166,17 @@ module _ (H : Header) (k : ℕ) (c d : Cell) where
         opens = eqb-true (d .side) 0 (and-right (x && p) y e3);
         first-beat = eqb-true (d .beat) 0 (and-right (x && p && y) q e4);
       }
+
+  -- c's piece ends at the line between the takes, and d's starts at the second's opening line
+  pub line-end : AtLine → endOf (H .delta) c ≡ k * H .delta
+  unfolding endOf
+  line-end a = let s = a .closes in rw (ne-eqb (c .side) 0 (omega arith)) (ap (λ (b : ℕ). b * (H .delta)) (a .last-beat))
+
+  pub line-start : AtLine → startOf (H .delta) d ≡ 0
+  unfolding startOf
+  line-start a =
+      let m : d .beat * (H .delta) ≡ 0 * (H .delta) = ap (λ (b : ℕ). b * (H .delta)) (a .first-beat) in
+      rw (eq-eqb (d .side) 0 (a .opens)) (omega arith)
 
   -- the cells' own pieces are the notes up to the line, and from it on
   pub own-ending : AtLine → own (H .delta) c ≡ endingAt (k * H .delta) c

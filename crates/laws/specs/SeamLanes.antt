@@ -1,18 +1,16 @@
 -- A solid take lane by lane: its notes are those of the takes that its single lanes are. Merging by parts, and some ticks later.
 -- Assumes nothing.
-use mathlib.Core.Bool.{Bool, _||_, cond, false, true}
-use mathlib.Core.List.{List, [], _++_, _∷_, append-nil, map}
-use mathlib.Core.Logic.{_≢_}
+use mathlib.Core.Bool.{Bool, _||_, false, true}
+use mathlib.Core.List.{List, [], _++_, _∷_, map}
 use mathlib.Core.Path.{_∙_, _≡_, ap, ap₂, refl, sym}
 use Prim.Native.Nat.{_+_, _<_, _≤_, suc, zero, ℕ}
-use native.Mathlib.Decide.{ℕ-discrete}
 use native.Mathlib.Omega.{arith}
-use lib.Dec.{eqb, leb, ltb}
+use lib.Dec.{eqb, leb}
 use borrow.Author.Tests.{eq-eqb, eqb-true, le-leb, leb-true, lt-leb, leb-false, ne-eqb}
-use Rattle.model.specs.Binding.{bound, boundNext, lineNotes, meet, standsAlone}
+use Rattle.model.specs.Binding.{boundNext, meet, standsAlone}
 use Rattle.model.specs.Lists.{countFrom, gather, keep}
 use Rattle.model.specs.Pieces.{firstBeat, inside}
-use Rattle.model.specs.Takes.{Take, cellTo, lanes, merge, noteBefore, noteTo, notesOf, weave}
+use Rattle.model.specs.Takes.{Take, cellTo, lanes, merge, noteBefore, noteTo, notesOf, insert}
 use Rattle.model.specs.declared.Cell.{Cell}
 use Rattle.model.specs.declared.Header.{Header}
 use Rattle.model.specs.declared.Note.{Note}
@@ -23,9 +21,9 @@ use Rattle.laws.specs.Merging.{all-merge, merge-first}
 use Rattle.laws.specs.Notes.{Before, Fair, Follow, Long, above, before}
 use Rattle.laws.specs.OneNote.{pieced-keep}
 use Rattle.laws.specs.Order.{walk-fair}
-use Rattle.laws.specs.Relations.{All, Pairs, all-all, all-count, all-imp, all-keep, all-kept, keep-no, keep-yes, pairs-keep}
+use Rattle.laws.specs.Relations.{All, all-count, all-imp, all-keep, all-kept, keep-no, keep-yes, pairs-keep}
 use Rattle.laws.specs.Rules.{Pieced, own}
-use Rattle.laws.specs.SeamWalk.{Free, lastOr, noteLater, walk-free}
+use Rattle.laws.specs.SeamWalk.{Free, last-all, lastOr, noteLater, walk-free}
 use Rattle.laws.specs.Solid.{Apart, Clear, Fine, Solid}
 use Rattle.laws.specs.Tidy.{cells-tidy, notes-tidy, tidy-lanes}
 use Rattle.laws.specs.Walk.{line-walk, linked, walk}
@@ -36,23 +34,23 @@ use Rattle.laws.specs.Walk.{line-walk, linked, walk}
 abbrev pub AllBefore : List Note → List Note → Type 0
 AllBefore xs ys = All (λ x. All (Before x) ys) xs
 
-weave-apart : (m : Note) (ms ns ys : List Note) → All (Before m) ys
+insert-apart : (m : Note) (ms ns ys : List Note) → All (Before m) ys
     → ((xs : List Note) → AllBefore xs ns → merge (ms ++ ns) (xs ++ ys) ≡ merge ms xs ++ merge ns ys) → (xs : List Note) → AllBefore xs ns
-    → weave m (λ zs. merge (ms ++ ns) zs) (xs ++ ys) ≡ weave m (λ zs. merge ms zs) xs ++ merge ns ys
-unfolding merge weave
-weave-apart m ms ns ys p h [] q = merge-first m (ms ++ ns) ys p ∙ ap (_∷_ m) (h [] q)
-weave-apart m ms ns ys p h (x ∷ xs) q = go (noteBefore m x) refl (weave-apart m ms ns ys p h xs (q .1))
+    → insert m (λ zs. merge (ms ++ ns) zs) (xs ++ ys) ≡ insert m (λ zs. merge ms zs) xs ++ merge ns ys
+unfolding merge insert
+insert-apart m ms ns ys p h [] q = merge-first m (ms ++ ns) ys p ∙ ap (_∷_ m) (h [] q)
+insert-apart m ms ns ys p h (x ∷ xs) q = go (noteBefore m x) refl (insert-apart m ms ns ys p h xs (q .1))
   where
-    go : (b : Bool) → noteBefore m x ≡ b → weave m (λ zs. merge (ms ++ ns) zs) (xs ++ ys) ≡ weave m (λ zs. merge ms zs) xs ++ merge ns ys
-        → weave m (λ zs. merge (ms ++ ns) zs) (x ∷ (xs ++ ys)) ≡ weave m (λ zs. merge ms zs) (x ∷ xs) ++ merge ns ys
-    go true e ih = rw (e, weave) (ap (_∷_ m) (h (x ∷ xs) q))
-    go false e ih = rw (e, weave) (ap (_∷_ x) ih)
+    go : (b : Bool) → noteBefore m x ≡ b → insert m (λ zs. merge (ms ++ ns) zs) (xs ++ ys) ≡ insert m (λ zs. merge ms zs) xs ++ merge ns ys
+        → insert m (λ zs. merge (ms ++ ns) zs) (x ∷ (xs ++ ys)) ≡ insert m (λ zs. merge ms zs) (x ∷ xs) ++ merge ns ys
+    go true e ih = rw (e, insert) (ap (_∷_ m) (h (x ∷ xs) q))
+    go false e ih = rw (e, insert) (ap (_∷_ x) ih)
 
 -- two lists of two parts each, where each first part lies before the other's second
 pub merge-apart : (ms ns xs ys : List Note) → AllBefore ms ys → AllBefore xs ns → merge (ms ++ ns) (xs ++ ys) ≡ merge ms xs ++ merge ns ys
 unfolding merge
 merge-apart [] ns xs ys p q = merge-seconds xs ns ys q
-merge-apart (m ∷ ms) ns xs ys p q = weave-apart m ms ns ys (p .0) (λ zs r. merge-apart ms ns zs ys (p .1) r) xs q
+merge-apart (m ∷ ms) ns xs ys p q = insert-apart m ms ns ys (p .0) (λ zs r. merge-apart ms ns zs ys (p .1) r) xs q
 
 -- merging is the same some ticks later
 module _ (s : ℕ) where
@@ -67,23 +65,23 @@ module _ (s : ℕ) where
   unfolding noteBefore
   before-later m n = rw (leb-later (m .start) (n .start))
 
-  weave-later : (x : Note) (xs : List Note)
+  insert-later : (x : Note) (xs : List Note)
       → ((ys : List Note) → merge (map (noteLater s) xs) (map (noteLater s) ys) ≡ map (noteLater s) (merge xs ys)) → (ys : List Note)
-      → weave (noteLater s x) (λ zs. merge (map (noteLater s) xs) zs) (map (noteLater s) ys) ≡ map (noteLater s) (weave x (λ zs. merge xs zs) ys)
-  unfolding weave
-  weave-later x xs h [] = ap (_∷_ (noteLater s x)) (h [])
-  weave-later x xs h (y ∷ ys) = go (noteBefore x y) refl (weave-later x xs h ys)
+      → insert (noteLater s x) (λ zs. merge (map (noteLater s) xs) zs) (map (noteLater s) ys) ≡ map (noteLater s) (insert x (λ zs. merge xs zs) ys)
+  unfolding insert
+  insert-later x xs h [] = ap (_∷_ (noteLater s x)) (h [])
+  insert-later x xs h (y ∷ ys) = go (noteBefore x y) refl (insert-later x xs h ys)
     where
       go : (b : Bool) → noteBefore x y ≡ b
-          → weave (noteLater s x) (λ zs. merge (map (noteLater s) xs) zs) (map (noteLater s) ys) ≡ map (noteLater s) (weave x (λ zs. merge xs zs) ys)
-          → weave (noteLater s x) (λ zs. merge (map (noteLater s) xs) zs) (map (noteLater s) (y ∷ ys)) ≡ map (noteLater s) (weave x (λ zs. merge xs zs) (y ∷ ys))
-      go true e ih = rw (before-later x y, e, weave) (ap (_∷_ (noteLater s x)) (h (y ∷ ys)))
-      go false e ih = rw (before-later x y, e, weave) (ap (_∷_ (noteLater s y)) ih)
+          → insert (noteLater s x) (λ zs. merge (map (noteLater s) xs) zs) (map (noteLater s) ys) ≡ map (noteLater s) (insert x (λ zs. merge xs zs) ys)
+          → insert (noteLater s x) (λ zs. merge (map (noteLater s) xs) zs) (map (noteLater s) (y ∷ ys)) ≡ map (noteLater s) (insert x (λ zs. merge xs zs) (y ∷ ys))
+      go true e ih = rw (before-later x y, e, insert) (ap (_∷_ (noteLater s x)) (h (y ∷ ys)))
+      go false e ih = rw (before-later x y, e, insert) (ap (_∷_ (noteLater s y)) ih)
 
   pub merge-later : (xs ys : List Note) → merge (map (noteLater s) xs) (map (noteLater s) ys) ≡ map (noteLater s) (merge xs ys)
   unfolding merge
   merge-later [] ys = refl
-  merge-later (x ∷ xs) ys = weave-later x xs (λ zs. merge-later xs zs) ys
+  merge-later (x ∷ xs) ys = insert-later x xs (λ zs. merge-later xs zs) ys
 
 -- ---- lists of single lanes, one after the other
 
@@ -130,13 +128,9 @@ module _ (H : Header) (le : (H .epsilon) ≤ (H .delta)) (f : ℕ → List Cell)
   lanes-free i c [] e a = refl
   lanes-free i c (d ∷ ds) e a = let h : i < d .lane = a .0 in rw (ne-eqb (c .lane) (d .lane) (omega arith))
 
-  last-lane : (i : ℕ) (c : Cell) (cs : List Cell) → CellsOn i (c ∷ cs) → (lastOr c cs) .lane ≡ i
-  last-lane i c [] a = a .0
-  last-lane i c (d ∷ ds) a = last-lane i d ds (a .1)
-
   free-lanes : (i : ℕ) (cs ds : List Cell) → CellsOn i cs → All (λ d. i < d .lane) ds → Free H le ds cs
   free-lanes i [] ds a b = tt
-  free-lanes i (c ∷ cs) ds a b = lanes-free i (lastOr c cs) ds (last-lane i c cs a) b
+  free-lanes i (c ∷ cs) ds a b = lanes-free i (lastOr c cs) ds (last-all (λ x. x .lane ≡ i) c cs a) b
 
   walk-lanes : (n i : ℕ) → walk H false (gather f (countFrom n i)) ≡ gather (λ l. walk H false (f l)) (countFrom n i)
   walk-lanes zero i = unfold walk in refl

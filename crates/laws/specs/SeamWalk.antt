@@ -7,7 +7,7 @@ use Prim.Native.Nat.{_*_, _+_, _-_, _<_, _≤_, suc, ℕ}
 use native.Mathlib.Decide.{ℕ-discrete}
 use native.Mathlib.Nat.{add-mul}
 use native.Mathlib.Omega.{arith}
-use lib.Dec.{eqb, leb}
+use lib.Dec.{eqb}
 use borrow.Author.Tests.{eq-eqb, eqb-true, leb-false, ne-eqb}
 use Rattle.model.specs.Binding.{bound, boundNext, endOf, fills, goOn, meet, opening, standsAlone, startOf}
 use Rattle.model.specs.Lists.{consIf}
@@ -19,6 +19,7 @@ use Rattle.model.specs.declared.Note.{Note}
 use Rattle.laws.specs.Booleans.{and-left, or-false, or-right}
 use Rattle.laws.specs.CutLines.{joined, put}
 use Rattle.laws.specs.Notes.{note-same}
+use Rattle.laws.specs.Relations.{All}
 use Rattle.laws.specs.Rules.{Pair, Pieced, double, fill-close-alone, fill-open-alone, meet-open, moved-alone, moved-bound, open-free, own, pair-close, pair-filled, pair-fills, pair-open, single, span, stop}
 use Rattle.laws.specs.Walk.{walk, walk-double, walk-single}
 
@@ -120,6 +121,11 @@ module _ {A : Type 0} where
   lastOr d [] = d
   lastOr d (x ∷ xs) = lastOr x xs
 
+  -- what holds of all holds of the last
+  pub last-all : (P : A → Type 0) (x : A) (xs : List A) → All P (x ∷ xs) → P (lastOr x xs)
+  last-all P x [] a = a .0
+  last-all P x (y ∷ ys) a = last-all P y ys (a .1)
+
 -- The first cell opens its beat.
 abbrev Opening : List Cell → Type 0
 Opening [] = ⊥
@@ -132,6 +138,7 @@ module _ (H : Header) (le : (H .epsilon) ≤ (H .delta)) where
     pub rest : List Note
     pub held : walk H true (d ∷ ds) ≡ note ∷ rest
     pub unheld : walk H false (d ∷ ds) ≡ consIf (standsAlone H d) note rest
+    pub start-is : note .start ≡ startOf (H .delta) d
     pub short : standsAlone H d ≡ false → note ≡ own (H .delta) d
 
   cons-cond : (b : Bool) (n : Note) (ns : List Note) → cond b (n ∷ ns) ns ≡ consIf b n ns
@@ -146,6 +153,7 @@ module _ (H : Header) (le : (H .epsilon) ≤ (H .delta)) where
         rest = walk H false ds;
         held = walk-single H d ds true f ∙ rw (b, or-right (standsAlone H d) {b = true} refl);
         unheld = walk-single H d ds false f ∙ rw (b, or-false (standsAlone H d)) (cons-cond (standsAlone H d) (own (H .delta) d) (walk H false ds));
+        start-is = unfold own in refl;
         short = λ e. refl;
       }
   opened (double {c = c} {d = d} {cs = cs} q p) o = go (boundNext H d cs) (walk H (boundNext H d cs) cs) (walk-double H c d cs true q) (walk-double H c d cs false q)
@@ -153,14 +161,14 @@ module _ (H : Header) (le : (H .epsilon) ≤ (H .delta)) where
       a : standsAlone H c ≡ true
       a = fill-open-alone H le c (pair-fills (H .delta) c d q)
 
-      made : (m : Note) (ms : List Note) → walk H true (c ∷ d ∷ cs) ≡ m ∷ ms → walk H false (c ∷ d ∷ cs) ≡ m ∷ ms → Opened c (d ∷ cs)
-      made m ms t u = record { note = m; rest = ms; held = t; unheld = rw a u; short = λ e. absurd (true≢false (sym a ∙ e)) }
+      made : (m : Note) (ms : List Note) → walk H true (c ∷ d ∷ cs) ≡ m ∷ ms → walk H false (c ∷ d ∷ cs) ≡ m ∷ ms → m .start ≡ startOf (H .delta) c → Opened c (d ∷ cs)
+      made m ms t u i = record { note = m; rest = ms; held = t; unheld = rw a u; start-is = i; short = λ e. absurd (true≢false (sym a ∙ e)) }
 
       go : (b : Bool) (ns : List Note) → walk H true (c ∷ d ∷ cs) ≡ put (span (H .delta) c d) b true ns
           → walk H false (c ∷ d ∷ cs) ≡ put (span (H .delta) c d) b true ns → Opened c (d ∷ cs)
-      go true [] t u = made (span (H .delta) c d) [] t u
-      go true (n ∷ ns) t u = made (joined (span (H .delta) c d) n) ns t u
-      go false ns t u = made (span (H .delta) c d) ns t u
+      go true [] t u = made (span (H .delta) c d) [] t u refl
+      go true (n ∷ ns) t u = made (joined (span (H .delta) c d) n) ns t u refl
+      go false ns t u = made (span (H .delta) c d) ns t u refl
 
   -- cells that a bound cell goes on in have a first note
   bound-opening : (x : Cell) (cs : List Cell) → boundNext H x cs ≡ true → Opening cs
@@ -232,17 +240,19 @@ module _ (H : Header) (le : (H .epsilon) ≤ (H .delta)) where
       pub note : Note
       pub whole : walk H held (cs ++ bs) ≡ front ++ joined note m ∷ ms
       pub part : walk H held cs ≡ front ++ consIf (standsAlone H c) note []
+      pub end-is : note .end ≡ endOf (H .delta) c
       pub short : standsAlone H c ≡ false → note ≡ own (H .delta) c
 
     module _ (m : Note) (ms : List Note) where
       -- the last piece
-      last-goes : (held : Bool) (c : Cell) (cs : List Cell) (n : Note) (shown : Bool) → shown ≡ standsAlone H c → (standsAlone H c ≡ false → n ≡ own (H .delta) c)
+      last-goes : (held : Bool) (c : Cell) (cs : List Cell) (n : Note) (shown : Bool) → shown ≡ standsAlone H c → n .end ≡ endOf (H .delta) c → (standsAlone H c ≡ false → n ≡ own (H .delta) c)
           → walk H held (cs ++ bs) ≡ goOn n (m ∷ ms) → walk H held cs ≡ cond shown (n ∷ []) [] → Goes held c cs m ms
-      last-goes held c cs n shown a s w p = record {
+      last-goes held c cs n shown a i s w p = record {
         front = [];
         note = n;
         whole = w;
         part = p ∙ rw a (cons-cond (standsAlone H c) n []);
+        end-is = i;
         short = s;
       }
 
@@ -256,16 +266,16 @@ module _ (H : Header) (le : (H .epsilon) ≤ (H .delta)) where
               → walk H held (cs ++ bs) ≡ put n on shown (fs ++ joined (g .note) m ∷ ms)
               → walk H held cs ≡ put n on shown (fs ++ consIf (standsAlone H c) (g .note) []) → Goes held c cs m ms
           go true shown [] true e s u v =
-              record { front = []; note = joined n (g .note); whole = u; part = v ∙ rw e; short = λ i. absurd (true≢false (sym e ∙ i)) }
+              record { front = []; note = joined n (g .note); whole = u; part = v ∙ rw e; end-is = g .end-is; short = λ i. absurd (true≢false (sym e ∙ i)) }
           go true shown [] false e s u v = absurd (rw e at (s refl))
-          go true shown (f ∷ fs) a e s u v = record { front = joined n f ∷ fs; note = g .note; whole = u; part = v; short = g .short }
-          go false true fs a e s u v = record { front = n ∷ fs; note = g .note; whole = u; part = v; short = g .short }
-          go false false fs a e s u v = record { front = fs; note = g .note; whole = u; part = v; short = g .short }
+          go true shown (f ∷ fs) a e s u v = record { front = joined n f ∷ fs; note = g .note; whole = u; part = v; end-is = g .end-is; short = g .short }
+          go false true fs a e s u v = record { front = n ∷ fs; note = g .note; whole = u; part = v; end-is = g .end-is; short = g .short }
+          go false false fs a e s u v = record { front = fs; note = g .note; whole = u; part = v; end-is = g .end-is; short = g .short }
 
       goes : {c : Cell} {cs : List Cell} → Pieced (H .delta) (c ∷ cs) → boundNext H (lastOr c cs) bs ≡ true → walk H true bs ≡ m ∷ ms → (held : Bool)
           → (held ≡ true → opening c ≡ true) → Goes held (lastOr c cs) (c ∷ cs) m ms
       goes (single {c = c} {cs = []} f g p) e w held o =
-          last-goes held c (c ∷ []) (own (H .delta) c) (standsAlone H c || held) (unheld held o) (λ i. refl)
+          last-goes held c (c ∷ []) (own (H .delta) c) (standsAlone H c || held) (unheld held o) (unfold own in refl) (λ i. refl)
           (walk-single H c bs held f ∙ rw (e, w)) (walk-single H c [] held f ∙ unfold boundNext walk in refl)
         where
           unheld : (held : Bool) → (held ≡ true → opening c ≡ true) → standsAlone H c || held ≡ standsAlone H c
@@ -279,7 +289,7 @@ module _ (H : Header) (le : (H .epsilon) ≤ (H .delta)) where
           (goes p e w b (bound-opening c (r ∷ rs)))
       goes (double {c = c} {d = d} {cs = []} q p) e w held o =
           let a : standsAlone H d ≡ true = fill-close-alone H le d (pair-filled (H .delta) c d q) in
-          last-goes held d (c ∷ d ∷ []) (span (H .delta) c d) true (sym a) (λ i. absurd (true≢false (sym a ∙ i)))
+          last-goes held d (c ∷ d ∷ []) (span (H .delta) c d) true (sym a) refl (λ i. absurd (true≢false (sym a ∙ i)))
           (walk-double H c d bs held q ∙ rw (e, w)) (walk-double H c d [] held q ∙ unfold boundNext walk in refl)
       goes (double {c = c} {d = d} {cs = r ∷ rs} q p) e w held o =
           let b = boundNext H d (r ∷ rs) in

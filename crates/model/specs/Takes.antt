@@ -25,16 +25,16 @@ unfoldable pub noteBefore : Note → Note → Bool
 noteBefore m n = ltb (m .lane) (n .lane) || (eqb (m .lane) (n .lane) && leb (m .start) (n .start))
 
 -- x at its place in the second list, and from there on `more`.
-unfoldable pub weave : Note → (List Note → List Note) → List Note → List Note
+unfoldable pub insert : Note → (List Note → List Note) → List Note → List Note
 unfolding noteBefore
-weave x more [] = x ∷ more []
-weave x more (y ∷ ys) = elim (noteBefore x y) [ true ↦ x ∷ more (y ∷ ys) | false ↦ y ∷ weave x more ys ]
+insert x more [] = x ∷ more []
+insert x more (y ∷ ys) = elim (noteBefore x y) [ true ↦ x ∷ more (y ∷ ys) | false ↦ y ∷ insert x more ys ]
 
 -- Two lists of notes, each in order, as one in order.
 unfoldable pub merge : List Note → List Note → List Note
-unfolding weave
+unfolding insert
 merge [] ys = ys
-merge (x ∷ xs) ys = weave x (λ zs. merge xs zs) ys
+merge (x ∷ xs) ys = insert x (λ zs. merge xs zs) ys
 
 -- A take's notes: the inner ones and those that the rules give from the cells.
 unfoldable pub notesOf : Header → Take → List Note

@@ -1,0 +1,320 @@
+-- Split: the number by the way that the questions go, and both halves' words. Assumes nothing.
+use mathlib.Core.Path.{_≡_, refl, sym, ap, _∙_}
+use mathlib.Core.Bool.{Bool, true, false, cond, not, _&&_, and-true, true≢false}
+use mathlib.Core.List.{List, [], _∷_}
+use Prim.Native.Nat.{ℕ, _+_, _-_, _≤_, _<_}
+use native.Mathlib.Nat.{add-zero}
+use native.Mathlib.Omega.{arith}
+use borrow.Author.Tests.{leb-true, ltb-true, le-leb, lt-leb, le-ltb, lt-ltb, eq-eqb, ne-eqb, not-true, not-false}
+use lib.Dec.{ltb, eqb}
+use lib.ListN.{length, getD, take, drop}
+use lib.Seq.{getD-drop, getD-take}
+use Rattle.words.specs.Parts.{length-part, part-splice-apart}
+use Rattle.words.specs.Splice.{splice, length-splice}
+use Rattle.model.specs.Limits.{maxBeats, maxDelta, maxShelves, maxWords, minWords}
+use Rattle.model.specs.Takes.{takeIn, wordsOf, splitLeft, splitRight}
+use Rattle.model.specs.Session.{headerOf, shelf, shelfAt, putShelf}
+use Rattle.model.specs.Soundness.{soundShelf}
+use Rattle.model.specs.Machine.{splitCall}
+use Rattle.model.specs.Answers.{answerOf, headerAsked}
+use Rattle.model.specs.Questions.{headerOk, shelvesOk, writesDiffer, readsSound, beatWithin, results, putAll, firstNo, number, written, after, takeAt}
+use Rattle.model.specs.declared.Header.{Header}
+use Rattle.model.specs.declared.HeaderAnswer.the-variants as answers
+use Rattle.model.proofs.Headers.{InRange, in-range, refused-means, valid-means}
+use Rattle.laws.specs.Booleans.{and-left, and-right}
+use Rattle.laws.specs.Reached.{split-number}
+use Rattle.laws.specs.Sessions.{length-words}
+use Rattle.laws.specs.Sound.{sound-beats}
+use Rattle.beat.specs.declared.halves.Half.{Half}
+use Rattle.beat.specs.Halving.{leftHalf, rightHalf, halfOf, HalfAsks}
+use Rattle.beat.specs.Splitting.{splitAsked, SplitAsks}
+use Rattle.beat.proofs.Calls.{after-refused, after-done}
+use Rattle.beat.proofs.HalfWords.{shelves-apart, shelf-inside, half-fits}
+
+-- ---- question 2 and question 3, by the way that the code goes
+
+module _ (K i l r : ℕ) where
+  pub first-above : K ≤ i → false ≡ ltb i K && (ltb l K && ltb r K)
+  first-above a = rw (le-ltb i K a)
+
+  module _ (b : i < K) where
+    pub second-above : K ≤ l → false ≡ ltb i K && (ltb l K && ltb r K)
+    second-above a = rw (lt-ltb i K b, le-ltb l K a)
+
+    pub third-is : l < K → ltb r K ≡ ltb i K && (ltb l K && ltb r K)
+    third-is a = rw (lt-ltb i K b, lt-ltb l K a)
+
+  pub shelf-below : {p : Bool} → p ≡ (ltb i K && (ltb l K && ltb r K)) → not p ≡ false → i < K
+  shelf-below {p} e t = ltb-true i K (and-left (ltb i K) (ltb l K && ltb r K) (sym e ∙ not-false p t))
+
+module _ (i l r : ℕ) where
+  pub left-is-right : l ≡ r → false ≡ not (eqb l r) && (not (eqb l i) && not (eqb r i))
+  left-is-right a = rw (eq-eqb l r a)
+
+  module _ (b : l ≡ r → ⊥) where
+    pub left-is-take : l ≡ i → false ≡ not (eqb l r) && (not (eqb l i) && not (eqb r i))
+    left-is-take a = rw (ne-eqb l r b, eq-eqb l i a)
+
+    pub right-and-take : (l ≡ i → ⊥) → not (eqb r i) ≡ not (eqb l r) && (not (eqb l i) && not (eqb r i))
+    right-and-take a = rw (ne-eqb l r b, ne-eqb l i a)
+
+-- ---- questions 2 to 5
+
+four : (a b c d : Bool) → firstNo ((2, a) ∷ (3, b) ∷ (4, c) ∷ (5, d) ∷ []) ≡ cond a (cond b (cond c (cond d 0 5) 4) 3) 2
+unfolding firstNo
+four true true true true = refl
+four true true true false = refl
+four true true false d = refl
+four true false c d = refl
+four false b c d = refl
+
+four-yes : (a b c d : Bool) → _≡_ {A = ℕ} (cond a (cond b (cond c (cond d 0 5) 4) 3) 2) 0 → (a ≡ true) × (b ≡ true) × (c ≡ true) × (d ≡ true)
+four-yes true true true true e = (refl, refl, refl, refl)
+four-yes true true true false e = absurd (omega arith)
+four-yes true true false d e = absurd (omega arith)
+four-yes true false c d e = absurd (omega arith)
+four-yes false b c d e = absurd (omega arith)
+
+module _ (h : Header) (s : List ℕ) (i k l r : ℕ) where
+  abbrev below : Bool
+  below = ltb i (h .shelves) && (ltb l (h .shelves) && ltb r (h .shelves))
+
+  abbrev apart : Bool
+  apart = not (eqb l r) && (not (eqb l i) && not (eqb r i))
+
+  abbrev sound : Bool
+  sound = soundShelf h (shelf h s i)
+
+  abbrev within : Bool
+  within = beatWithin h s i k
+
+  q2 : shelvesOk h (splitCall i k l r) ≡ below
+  unfolding shelvesOk
+  q2 = rw (and-true (ltb r (h .shelves)))
+
+  q3 : writesDiffer (splitCall i k l r) ≡ apart
+  unfolding writesDiffer
+  q3 = go (eqb l r) (eqb l i) (eqb r i)
+    where
+      go : (a b c : Bool) → ((not a && true) && (true && true)) && ((not b && true) && ((not c && true) && true)) ≡ not a && (not b && not c)
+      go true b c = refl
+      go false true c = refl
+      go false false true = refl
+      go false false false = refl
+
+  q4 : readsSound h s (splitCall i k l r) ≡ sound
+  unfolding readsSound
+  q4 = and-true sound
+
+  asked-is : splitAsked h s i k l r ≡ cond below (cond apart (cond sound (cond within 0 5) 4) 3) 2
+  unfolding splitAsked
+  asked-is = rw (q2, q3, q4) (four below apart sound within)
+
+  -- the ways out
+  module _ {p : Bool} (e : p ≡ below) where
+    pub no-shelf : not p ≡ true → 2 ≡ splitAsked h s i k l r
+    no-shelf t = sym (asked-is ∙ rw (← e, not-true p t))
+
+    module _ (u : not p ≡ false) {q : Bool} (f : q ≡ apart) where
+      pub same-shelf : not q ≡ true → 3 ≡ splitAsked h s i k l r
+      same-shelf t = sym (asked-is ∙ rw (← e, not-false p u, ← f, not-true q t))
+
+      module _ (v : not q ≡ false) {o : Bool} (g : o ≡ sound) where
+        pub not-sound : not o ≡ true → 4 ≡ splitAsked h s i k l r
+        not-sound t = sym (asked-is ∙ rw (← e, not-false p u, ← f, not-false q v, ← g, not-true o t))
+
+        module _ (w : not o ≡ false) where
+          by-beat : (b : Bool) → within ≡ b → cond b 0 5 ≡ splitAsked h s i k l r
+          by-beat b x = sym (asked-is ∙ rw (← e, not-false p u, ← f, not-false q v, ← g, not-false o w, x))
+
+          pub too-late : within ≡ false → 5 ≡ splitAsked h s i k l r
+          too-late x = by-beat false x
+
+          pub all-yes : within ≡ true → 0 ≡ splitAsked h s i k l r
+          all-yes x = by-beat true x
+
+-- ---- the shelf that is read
+
+-- what its place asks
+pub place-asks : {h : Header} {len i : ℕ} → InRange h len → i < h .shelves → (i < h .shelves) × (h .shelves ≤ maxShelves) × (h .words ≤ maxWords)
+place-asks range below-K = (below-K, range .few-shelves, range .small)
+
+-- it lies inside the session
+pub inside-session : {h : Header} {len i : ℕ} → InRange h len → i < h .shelves → {at : ℕ} → at ≡ shelfAt h i → at + h .words ≤ len
+inside-session {h} {len} {i} range below-K place = omega (arith, place, shelf-inside h i len range below-K)
+
+module _ (h : Header) (s : List ℕ) (i : ℕ) (range : InRange h (length s)) (below-K : i < h .shelves) where
+  module _ {at : ℕ} (place : at ≡ shelfAt h i) where
+    inside : at + h .words ≤ length s
+    inside = inside-session range below-K place
+
+    part-is : take (at + h .words - at) (drop at s) ≡ shelf h s i
+    unfolding shelf
+    part-is = let w : at + h .words - at ≡ h .words = omega arith in rw (w, place)
+
+    pub sound-asks : (0 < h .delta) × (h .delta ≤ maxDelta) × (h .epsilon ≤ h .delta) × (minWords ≤ h .words) × (length (take (at + h .words - at) (drop at s)) ≡ h .words)
+    sound-asks =
+        let w : at + h .words - at ≡ h .words = omega arith in
+        (range .some-ticks, range .few-ticks, range .kept-within, range .large, rw w (length-part s at (h .words) inside))
+
+    pub sound-is : {o : Bool} → o ≡ soundShelf h (take (at + h .words - at) (drop at s)) → o ≡ soundShelf h (shelf h s i)
+    sound-is e = e ∙ ap (soundShelf h) part-is
+
+    pub beats-is : getD s at 0 ≡ (takeAt h s i) .beats
+    unfolding takeIn shelf
+    beats-is = rw (place, getD-take (h .words) (drop (shelfAt h i) s) 0 0 (omega (arith, range .large)), getD-drop (shelfAt h i) s 0 0, add-zero (shelfAt h i))
+
+    module _ (k : ℕ) where
+      pub beat-behind : getD s at 0 < k → beatWithin h s i k ≡ false
+      unfolding beatWithin
+      beat-behind less = lt-leb k ((takeAt h s i) .beats) (omega (arith, beats-is))
+
+      pub beat-inside : k ≤ getD s at 0 → beatWithin h s i k ≡ true
+      unfolding beatWithin
+      beat-inside le = le-leb k ((takeAt h s i) .beats) (omega (arith, beats-is))
+
+-- ---- both halves
+
+module _ {s : List ℕ} {h : Header} {i k l r : ℕ} (a : SplitAsks s h i k l r) where
+  range : InRange h (length s)
+  range = in-range (a .header)
+
+  -- questions 2 to 5 as facts
+  pub record Granted : Type 0 where
+    pub take-below : i < h .shelves
+    pub left-below : l < h .shelves
+    pub right-below : r < h .shelves
+    pub left-right : l ≡ r → ⊥
+    pub take-left : i ≡ l → ⊥
+    pub take-right : i ≡ r → ⊥
+    pub is-sound : soundShelf h (shelf h s i) ≡ true
+    pub beat-in : k ≤ (takeAt h s i) .beats
+    pub beats-few : (takeAt h s i) .beats ≤ maxBeats
+
+  unlike : (x y : ℕ) → not (eqb x y) ≡ true → x ≡ y → ⊥
+  unlike x y e f = true≢false (sym e ∙ rw (eq-eqb x y f))
+
+  pub granted : Granted
+  unfolding beatWithin takeIn
+  granted =
+      let yes = four-yes (below h s i k l r) (apart h s i k l r) (sound h s i k l r) (within h s i k l r) (sym (asked-is h s i k l r) ∙ a .asked) in
+      let first = ltb i (h .shelves) in
+      let second = ltb l (h .shelves) in
+      let third = ltb r (h .shelves) in
+      let two = and-right first (second && third) (yes .0) in
+      let differ = and-right (not (eqb l r)) (not (eqb l i) && not (eqb r i)) (yes .1) in
+      record {
+        take-below = ltb-true i (h .shelves) (and-left first (second && third) (yes .0));
+        left-below = ltb-true l (h .shelves) (and-left second third two);
+        right-below = ltb-true r (h .shelves) (and-right second third two);
+        left-right = unlike l r (and-left (not (eqb l r)) (not (eqb l i) && not (eqb r i)) (yes .1));
+        take-left = λ e. unlike l i (and-left (not (eqb l i)) (not (eqb r i)) differ) (sym e);
+        take-right = λ e. unlike r i (and-right (not (eqb l i)) (not (eqb r i)) differ) (sym e);
+        is-sound = yes .2;
+        beat-in = leb-true k ((takeAt h s i) .beats) (yes .3);
+        beats-few = sound-beats h (range .some-ticks) (shelf h s i) (yes .2);
+      }
+
+  pub source-asks : (i < h .shelves) × (h .shelves ≤ maxShelves) × (h .words ≤ maxWords)
+  source-asks = place-asks range (granted .take-below)
+
+  pub left-asks : (h .delta ≤ maxDelta) × (k ≤ maxBeats)
+  left-asks = (range .few-ticks, omega (arith, granted .beat-in, granted .beats-few))
+
+  module _ {at : ℕ} (place : at ≡ shelfAt h i) where
+    pub source-inside : at + h .words ≤ length s
+    source-inside = inside h s i range (granted .take-below) place
+
+    beats-are : getD s at 0 ≡ (takeAt h s i) .beats
+    beats-are = beats-is h s i range (granted .take-below) place
+
+    pub right-asks : (h .delta ≤ maxDelta) × (getD s at 0 ≤ maxBeats) × (k ≤ getD s at 0)
+    right-asks = (range .few-ticks, omega (arith, beats-are, granted .beats-few), omega (arith, beats-are, granted .beat-in))
+
+    module _ {v : Half} (is : v ≡ leftHalf (h .delta) k) where
+      pub first-asks : HalfAsks s h v i l
+      unfolding halfOf splitLeft
+      first-asks =
+          rw is
+          (record {
+            header = a .header;
+            take-below = granted .take-below;
+            to-below = granted .left-below;
+            differ = granted .take-left;
+            sound = granted .is-sound;
+            half = record { line-is = refl; edge-is = refl };
+            beats-are = refl;
+          })
+
+      module _ {s₁ : List ℕ} (e : s₁ ≡ splice s (shelfAt h l) (wordsOf h (halfOf (h .delta) v (takeAt h s i)))) where
+        long : length s₁ ≡ length s
+        long = ap length e ∙ length-splice s (shelfAt h l) (wordsOf h (halfOf (h .delta) v (takeAt h s i)))
+
+        -- the shelf that is read is as it was
+        still : shelf h s₁ i ≡ shelf h s i
+        unfolding shelf
+        still =
+            let size : length (wordsOf h (halfOf (h .delta) v (takeAt h s i))) ≡ h .words = length-words h (halfOf (h .delta) v (takeAt h s i)) (half-fits first-asks) in
+            rw e (part-splice-apart s (shelfAt h l) (wordsOf h (halfOf (h .delta) v (takeAt h s i))) (shelves-apart h i l (granted .take-left)) (omega arith))
+
+        module _ {u : Half} (also : u ≡ rightHalf (h .delta) k (getD s at 0)) where
+          pub second-asks : HalfAsks s₁ h u i r
+          unfolding halfOf splitRight
+          second-asks =
+              rw also
+              (record {
+                header = rw long (a .header);
+                take-below = granted .take-below;
+                to-below = granted .right-below;
+                differ = granted .take-right;
+                sound = rw still (granted .is-sound);
+                half = record { line-is = refl; edge-is = refl };
+                beats-are = rw (beats-are, still);
+              })
+
+          pub both-put : {s₂ : List ℕ} → s₂ ≡ splice s₁ (shelfAt h r) (wordsOf h (halfOf (h .delta) u (takeAt h s₁ i))) → s₂ ≡ putAll h s (results h s (splitCall i k l r))
+          unfolding putAll putShelf results halfOf
+          both-put f = f ∙ rw (still, e, is, also)
+
+-- ---- the call
+
+-- question 1 answered yes
+pub header-ok : (s : List ℕ) {h : Header} → answerOf (answers.Valid h) ≡ headerAsked (headerOf s) (length s) → headerOk h (length s) ≡ true
+header-ok s {h} e = let v = valid-means (headerOf s) (length s) h e in rw (v .1) (v .0)
+
+module _ (s : List ℕ) (i k l r : ℕ) where
+  number-no : headerOk (headerOf s) (length s) ≡ false → number s (splitCall i k l r) ≡ 1
+  unfolding firstNo
+  number-no e = split-number s i k l r ∙ rw e
+
+  number-asked : headerOk (headerOf s) (length s) ≡ true → number s (splitCall i k l r) ≡ splitAsked (headerOf s) s i k l r
+  unfolding firstNo splitAsked
+  number-asked e = split-number s i k l r ∙ rw e
+
+  pub no-header : answerOf answers.Refused ≡ headerAsked (headerOf s) (length s) → (1 ≡ number s (splitCall i k l r)) × (s ≡ after s (splitCall i k l r))
+  no-header e =
+      let is : 1 ≡ number s (splitCall i k l r) = sym (number-no (refused-means (headerOf s) (length s) e)) in
+      (is, after-refused s (splitCall i k l r) 1 is (omega arith))
+
+  module _ {h : Header} (e : answerOf (answers.Valid h) ≡ headerAsked (headerOf s) (length s)) where
+    ok : headerOk (headerOf s) (length s) ≡ true
+    ok = valid-means (headerOf s) (length s) h e .0
+
+    same : h ≡ headerOf s
+    same = valid-means (headerOf s) (length s) h e .1
+
+    module _ {no : ℕ} (f : no ≡ splitAsked h s i k l r) where
+      number-is : no ≡ number s (splitCall i k l r)
+      number-is = f ∙ rw same (sym (number-asked ok))
+
+      pub refused : (no ≡ 0 → ⊥) → (no ≡ number s (splitCall i k l r)) × (s ≡ after s (splitCall i k l r))
+      refused more = (number-is, after-refused s (splitCall i k l r) no number-is (omega arith))
+
+      pub split-asks : no ≡ 0 → SplitAsks s h i k l r
+      split-asks z = record { header = header-ok s e; asked = sym f ∙ z }
+
+      pub done : no ≡ 0 → {t : List ℕ} → t ≡ putAll h s (results h s (splitCall i k l r)) → (0 ≡ number s (splitCall i k l r)) × (t ≡ after s (splitCall i k l r))
+      unfolding written
+      done z g =
+          let is : 0 ≡ number s (splitCall i k l r) = sym z ∙ number-is in
+          (is, after-done s (splitCall i k l r) is (g ∙ rw same))
