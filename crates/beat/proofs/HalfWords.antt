@@ -194,7 +194,7 @@ module _ {s : List ℕ} {h : Header} {v : Half} {i j : ℕ} (a : HalfAsks s h v 
     cells-left = rw (r .cells-are) (half-cells (h .delta) v t)
 
     -- a run of places inside the other shelf
-    placed : (l : List ℕ) → length l ≡ length s → (to size : ℕ) → shelfAt h j ≤ to → to + size ≤ shelfAt h j + h .words → Placed l from to size
+    pub placed : (l : List ℕ) → length l ≡ length s → (to size : ℕ) → shelfAt h j ≤ to → to + size ≤ shelfAt h j + h .words → Placed l from to size
     placed l long to size low high =
         record {
           low = shelfAt h i;

@@ -1,29 +1,31 @@
 -- The notes of a lane copied from a take, and what stands in front of a take's notes and cells. Assumes nothing.
 use mathlib.Core.Path.{_≡_, refl, sym, ap, _∙_}
-use mathlib.Core.Bool.{Bool, true, false, not, cond}
+use mathlib.Core.Bool.{Bool, true, false, cond, true≢false}
 use mathlib.Core.List.{List, [], _∷_, _++_, map}
-use Prim.Native.Nat.{ℕ, zero, suc, _+_, _-_, _*_, _≤_, _<_}
+use Prim.Native.Nat.{ℕ, zero, suc, _+_, _-_, _*_, _≤_, _<_, min}
 use native.Mathlib.Omega.{arith}
-use borrow.Author.Tests.{eq-eqb, ne-eqb, leb-true, leb-false}
+use borrow.Author.Tests.{eq-eqb, eqb-true, ne-eqb, leb-true, leb-false}
 use lib.Dec.{leb, eqb}
 use lib.ListN.{length, length-append}
 use Rattle.words.specs.Splice.{splice}
 use Rattle.words.specs.Writes.{Writes, writes-start, writes-run, writes-done, writes-same}
 use Rattle.words.specs.Parts.{Same}
-use Rattle.model.specs.Binding.{bound}
+use Rattle.model.specs.Binding.{bound, standsAlone}
 use Rattle.model.specs.Lists.{gather}
 use Rattle.model.specs.Takes.{noteWords}
 use Rattle.model.specs.declared.Header.{Header}
 use Rattle.model.specs.declared.Note.{Note}
 use Rattle.model.specs.declared.Cell.{Cell}
-use Rattle.laws.specs.JoinWalk.{runOf, restOf, laneAhead, noteRun, noteRest, cellRest}
+use Rattle.laws.specs.JoinWalk.{runOf, restOf, laneAhead, leastLane, noteRun, noteRest, cellRest}
 use Rattle.laws.specs.Relations.{All}
-use Rattle.laws.specs.Seam.{boundAt}
-use Rattle.laws.specs.SeamWalk.{noteLater}
+use Rattle.laws.specs.Seam.{boundAt, firstOr, endingAt, startingAt0, upTo, fromOn, joinOver}
+use Rattle.laws.specs.SeamWalk.{lastOr, noteLater}
 use Rattle.session.specs.Reading.{noteAt, cellAt, lastNotes, lastCells}
 use Rattle.session.proofs.Lasts.{no-notes, no-cells, last-notes, last-cells}
 use Rattle.session.proofs.Frames.{length-notes}
-use Rattle.beat.specs.Seams.{Shiftable, laterRun, NoteRunAsks, NoteRunPut}
+use Rattle.beat.specs.declared.halves.Contents.{Contents}
+use Rattle.beat.specs.declared.seam.Seam.{Seam}
+use Rattle.beat.specs.Seams.{Shiftable, laterRun, NoteRunAsks, NoteRunPut, RunRead, OverAsks, laneNotes, laneBy, overSeam, laneOf}
 use Rattle.beat.proofs.Passes.{notes-agree}
 
 -- ---- the lane in front
@@ -224,3 +226,127 @@ module _ (h : Header) (k : ℕ) (c d : Cell) where
         pub over-bound : d .beat ≡ 0 → bound h c d ≡ boundAt h k c d
         unfolding boundAt
         over-bound z = rw (eq-eqb (c .side) 1 e, last-beat, eq-eqb (d .side) 0 g, eq-eqb (d .beat) 0 z)
+
+-- ---- the note that goes over the line
+
+nothing : (ns : List Note) → length ns ≡ 0 → ns ≡ []
+nothing [] e = refl
+nothing (n ∷ ns) e = absurd (omega arith)
+
+either : {A : Type 0} (b : Bool) (x : A) → x ≡ cond b x x
+either true x = refl
+either false x = refl
+
+-- the last note of the lane in front stands before those that are left
+last-of-run : (s : List ℕ) (lane end : ℕ) (d : Note) (left r : ℕ) → 4 * left ≤ end → left ≡ r + length (noteRun lane (lastNotes s end left)) → r < left
+    → lastOr d (noteRun lane (lastNotes s end left)) ≡ noteAt s (end - 4 * (r + 1))
+last-of-run s lane end d zero r fits count less = absurd (omega arith)
+last-of-run s lane end d (suc k) r fits count less =
+    by (eqb (n .lane) lane) refl (λ e f. last-of-run s lane end n k r (omega arith) e f)
+  where
+    n : Note
+    n = noteAt s (end - 4 * suc k)
+
+    ns : List Note
+    ns = lastNotes s end k
+
+    first : lastNotes s end (suc k) ≡ n ∷ ns
+    first = let one : suc k - 1 ≡ k = omega arith in last-notes s end (suc k) (omega arith) fits ∙ rw one
+
+    by : (b : Bool) → eqb (n .lane) lane ≡ b → (k ≡ r + length (noteRun lane ns) → r < k → lastOr n (noteRun lane ns) ≡ noteAt s (end - 4 * (r + 1)))
+        → lastOr d (noteRun lane (lastNotes s end (suc k))) ≡ noteAt s (end - 4 * (r + 1))
+    by true e ih = rw run (here (leb (suc r) k) refl)
+      where
+        run : noteRun lane (lastNotes s end (suc k)) ≡ n ∷ noteRun lane ns
+        run = ap (noteRun lane) first ∙ run-go (λ n. n .lane) lane n ns (eqb-true (n .lane) lane e)
+
+        counted : k ≡ r + length (noteRun lane ns)
+        counted = omega (arith, count, ap length run)
+
+        here : (b : Bool) → leb (suc r) k ≡ b → lastOr n (noteRun lane ns) ≡ noteAt s (end - 4 * (r + 1))
+        here true f = ih counted (leb-true (suc r) k f)
+        here false f =
+            let is : r ≡ k = omega (arith, leb-false (suc r) k f, less) in
+            let none : noteRun lane ns ≡ [] = nothing (noteRun lane ns) (omega (arith, counted)) in
+            let place : end - 4 * (r + 1) ≡ end - 4 * suc k = omega arith in
+            ap (lastOr n) none ∙ ap (noteAt s) (sym place)
+    by false e ih =
+        let run : noteRun lane (lastNotes s end (suc k)) ≡ [] = ap (noteRun lane) first ∙ run-stop (λ n. n .lane) lane n ns (λ f. true≢false (sym (eq-eqb (n .lane) lane f) ∙ e)) in
+        absurd (omega (arith, count, ap length run, less))
+
+module _ {s : List ℕ} {end left r : ℕ} (h : Header) (line : ℕ) (c : Cell) (a : RunRead s (c .lane) end left r) where
+  pub up-none : r ≡ left → endingAt line c ≡ upTo h line c (noteRun (c .lane) (lastNotes s end left))
+  up-none e =
+      let none : noteRun (c .lane) (lastNotes s end left) ≡ [] = nothing (noteRun (c .lane) (lastNotes s end left)) (omega (arith, a .count)) in
+      rw none (either (standsAlone h c) (endingAt line c))
+
+  module _ {b : Bool} (is : b ≡ standsAlone h c) where
+    pub up-short : b ≡ false → endingAt line c ≡ upTo h line c (noteRun (c .lane) (lastNotes s end left))
+    up-short e = rw (sym is ∙ e)
+
+    module _ (d : r ≡ left → ⊥) where
+      pub up-inside : (4 * (r + 1) ≤ end) × (end - 4 * (r + 1) + 4 ≤ length s)
+      up-inside = (omega (arith, a .count, a .notes-in), omega (arith, a .count, a .notes-in, a .inside))
+
+      pub up-last : b ≡ true → {n : Note} → n ≡ noteAt s (end - 4 * (r + 1)) → n ≡ upTo h line c (noteRun (c .lane) (lastNotes s end left))
+      up-last e f = rw (sym is ∙ e) (f ∙ sym (last-of-run s (c .lane) end (endingAt line c) left r (a .notes-in) (a .count) (omega (arith, a .count))))
+
+module _ (s : List ℕ) (end left : ℕ) (h : Header) (d : Cell) where
+  abbrev ahead : List Note
+  ahead = noteRun (d .lane) (lastNotes s end left)
+
+  none-on : ahead ≡ [] → startingAt0 d ≡ fromOn h d ahead
+  none-on e = rw e (either (standsAlone h d) (startingAt0 d))
+
+  pub on-end : left ≡ 0 → startingAt0 d ≡ fromOn h d ahead
+  on-end z = none-on (ap (noteRun (d .lane)) (ap (lastNotes s end) z ∙ no-notes s end) ∙ run-none (λ n. n .lane) (d .lane))
+
+  module _ (some : left ≡ 0 → ⊥) (fits : 4 * left ≤ end) {n : Note} (is : n ≡ noteAt s (end - 4 * left)) where
+    on-first : lastNotes s end left ≡ n ∷ lastNotes s end (left - 1)
+    on-first = last-notes s end left (omega arith) fits ∙ rw (← is)
+
+    pub on-other : (n .lane ≡ d .lane → ⊥) → startingAt0 d ≡ fromOn h d ahead
+    on-other o = none-on (ap (noteRun (d .lane)) on-first ∙ run-stop (λ n. n .lane) (d .lane) n (lastNotes s end (left - 1)) o)
+
+    module _ {b : Bool} (alone : b ≡ standsAlone h d) where
+      pub on-short : b ≡ false → startingAt0 d ≡ fromOn h d ahead
+      on-short e = rw (sym alone ∙ e)
+
+      pub on-note : b ≡ true → n .lane ≡ d .lane → n ≡ fromOn h d ahead
+      on-note e o =
+          let run : ahead ≡ n ∷ noteRun (d .lane) (lastNotes s end (left - 1)) = ap (noteRun (d .lane)) on-first ∙ run-go (λ n. n .lane) (d .lane) n (lastNotes s end (left - 1)) o in
+          rw (sym alone ∙ e, run)
+
+-- a cell that began before the first take begins here at its first tick
+pub ending-low : (lane line before velocity : ℕ) → line < before
+    → _≡_ {A = Note} (record { lane = lane; start = 0; end = line; velocity = velocity }) (record { lane = lane; start = line - before; end = line; velocity = velocity })
+ending-low lane line before velocity less = let z : line - before ≡ 0 = omega arith in rw z
+
+-- ---- the seam
+
+module _ {s : List ℕ} {h : Header} {line : ℕ} {c d : Cell} {first : Contents} {rest : ℕ} {second : Contents} (a : OverAsks s h line c d first rest second) where
+  pub over-end : {m : Note} → m ≡ fromOn h d (laneNotes (d .lane) s second) → m .end + line ≤ 4294967295
+  over-end e = rw e (a .end-word)
+
+  pub over-is : {n m : Note} {b g : Bool} → n ≡ upTo h line c (laneNotes (c .lane) s first) → m ≡ fromOn h d (laneNotes (d .lane) s second)
+      → b ≡ standsAlone h c → g ≡ standsAlone h d
+      → _≡_ {A = Seam} (record { over = true; held = b; skipped = g; note = record { lane = n .lane; start = n .start; end = m .end + line; velocity = n .velocity } })
+      (overSeam h line c d (laneNotes (c .lane) s first) (laneNotes (d .lane) s second))
+  over-is e f x y = rw (e, f, x, y)
+
+-- the lane's notes where a note goes over the line
+pub over-lane : (h : Header) (line : ℕ) (c d : Cell) (ms ns : List Note) → joinOver h line c d ms ns ≡ laneBy (overSeam h line c d ms ns) line ms ns
+unfolding joinOver laneBy
+over-lane h line c d ms ns = refl
+
+-- ---- the lane that is next
+
+pub lane-is : (s : List ℕ) (from : Contents) {a b r : ℕ} → a ≡ laneAhead (λ n. n .lane) (lastNotes s (from .middle) (from .notes))
+    → b ≡ laneAhead (λ c. c .lane) (lastCells s (from .end) (from .cells)) → r ≡ min a b → r ≡ laneOf s from
+unfolding laneOf
+lane-is s from e f g = g ∙ rw (e, f)
+
+pub least-is : (s : List ℕ) (first second : Contents) {a b r : ℕ} → a ≡ laneOf s first → b ≡ laneOf s second → r ≡ min a b
+    → r ≡ leastLane (lastNotes s (first .middle) (first .notes)) (lastCells s (first .end) (first .cells)) (lastNotes s (second .middle) (second .notes)) (lastCells s (second .end) (second .cells))
+unfolding laneOf leastLane
+least-is s first second e f g = g ∙ rw (e, f)

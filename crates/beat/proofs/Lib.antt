@@ -9,3 +9,4 @@ pub mod HalfWords
 pub mod Splits
 pub mod JoinCells
 pub mod JoinSeam
+pub mod JoinWords

@@ -1,6 +1,6 @@
 -- A join: its cells by one walk over both takes' cells, what each function is asked, and what it leaves. Assumes nothing.
 use mathlib.Core.Path.{_≡_}
-use mathlib.Core.Bool.{cond}
+use mathlib.Core.Bool.{cond, true}
 use mathlib.Core.List.{List, [], _∷_, _++_, map}
 use Prim.Native.Nat.{ℕ, _+_, _-_, _*_, _≤_, _<_}
 use lib.Dec.{leb}
@@ -8,8 +8,13 @@ use lib.ListN.{length}
 use Rattle.words.specs.Apart.{Apart}
 use Rattle.words.specs.Splice.{splice}
 use Rattle.model.specs.Lists.{gather}
+use Rattle.model.specs.Limits.{maxBeats}
+use Rattle.model.specs.Questions.{headerOk, takeAt}
+use Rattle.model.specs.Session.{shelf}
+use Rattle.model.specs.Soundness.{soundShelf}
 use Rattle.model.specs.Takes.{cellWords}
 use Rattle.model.specs.declared.Cell.{Cell}
+use Rattle.model.specs.declared.Header.{Header}
 use Rattle.laws.specs.Lanes.{mergeLane}
 use Rattle.laws.specs.Relations.{All}
 use Rattle.laws.specs.SeamWalk.{cellLater}
@@ -78,3 +83,17 @@ pub record JoinedAsks (s : List ℕ) (to beats : ℕ) (first second : Contents) 
   pub first-inside : first .end ≤ length s
   pub first-apart : Apart (first .end - 6 * first .cells) (6 * first .cells) to (6 * length (cellsJoined beats s first second (first .cells) (second .cells)))
   pub run : RunAsks s beats (second .end) (second .cells) to (6 * length (cellsJoined beats s first second (first .cells) (second .cells)))
+
+-- ---- two shelves
+
+-- Two sound shelves, which may be one, and another shelf for the join of their takes.
+pub record JoinAsks (s : List ℕ) (h : Header) (first second to : ℕ) : Type 0 where
+  pub header : headerOk h (length s) ≡ true
+  pub first-below : first < h .shelves
+  pub second-below : second < h .shelves
+  pub to-below : to < h .shelves
+  pub first-differs : first ≡ to → ⊥
+  pub second-differs : second ≡ to → ⊥
+  pub first-sound : soundShelf h (shelf h s first) ≡ true
+  pub second-sound : soundShelf h (shelf h s second) ≡ true
+  pub beats-few : (takeAt h s first) .beats + (takeAt h s second) .beats ≤ maxBeats
