@@ -1,0 +1,3 @@
+-- Numbers in order, and a winner tree of them.
+pub mod Sort
+pub mod Nodes
