@@ -1,0 +1,4 @@
+-- The events of notes in the order of the file.
+pub mod Queues
+pub mod Events
+pub mod Runs

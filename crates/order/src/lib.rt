@@ -1,0 +1,99 @@
+// The events of a take's notes in the order of the file: by tick, ends before starts, then by lane. An event is one number with that order.
+// Each lane's events are in order already, so the next event of all is the least of the lanes' next events: the root of a winner tree.
+ghost use mathlib.Core.Path.{_≡_};
+ghost use Prim.Native.Nat.{ℕ, _+_, _*_, _≤_, _<_};
+ghost use lib.ListN.{length, getD};
+ghost use Rattle.order.specs.Queues.{headKey, Queues, Ready, Took, done};
+ghost use Rattle.order.specs.Events.{laneAt, event, events, Ordered};
+ghost use Rattle.order.specs.Runs.{Run, Split};
+
+// Above the number of every event: a lane that has no more.
+const DONE: u64 = 70368744177664;
+
+// An event's number: kind 0 is an end, 1 a start.
+fn number(tick: u32, kind: u64, lane: u32, velocity: u32) -> u64
+    requires { ⌜ kind < 2 ⌝ }
+    ensures { λ r. ⌜ r ≡ event tick kind lane velocity ⌝ }
+{
+    tick as u64 * 524288 + kind * 262144 + lane as u64 * 128 + velocity as u64
+}
+
+// Event e of the notes: note e / 2 starts at an even one and ends at the odd one behind it.
+fn event_at(s: &[u32], count: usize, e: usize) -> u64
+    requires { ⌜ (4 * count ≤ length (now s)) × (e < 2 * count) ⌝ }
+    ensures { λ r. ⌜ r ≡ getD (events (now (s .entry)) 0 count) e 0 ⌝ }
+{
+    let i = e / 2;
+    if e % 2 == 0 {
+        number(s[4 * i + 1], 1, s[4 * i], s[4 * i + 3])
+    } else {
+        number(s[4 * i + 2], 0, s[4 * i], 64)
+    }
+}
+
+// The first of a lane's events from p up to e.
+fn head(s: &[u32], count: usize, p: usize, e: usize) -> u64
+    requires { ⌜ (4 * count ≤ length (now s)) × (e ≤ 2 * count) ⌝ }
+    ensures { λ r. ⌜ r ≡ headKey (events (now (s .entry)) 0 count) p e ⌝ }
+{
+    if p < e { event_at(s, count, p) } else { DONE }
+}
+
+// The first note from a note on that is not of the lane.
+fn run_end(s: &[u32], count: usize, from: usize, lane: usize) -> usize
+    requires { ⌜ (from ≤ count) × (4 * count ≤ length (now s)) ⌝ }
+    ensures { λ r. ⌜ Run (now (s .entry)) count from lane r ⌝ }
+{
+    let mut i = from;
+    while i < count {
+        if s[4 * i] as usize != lane {
+            return i;
+        }
+        i += 1;
+    }
+    i
+}
+
+// Where each lane's events begin and end.
+pub fn runs(s: &[u32], count: usize, n: usize, pos: &mut [u32], ends: &mut [u32])
+    requires { ⌜ Ordered (now s) count × ((j : ℕ) → j < count → laneAt (now s) j < n) × (0 < n) × (n ≤ length (now pos)) × (n ≤ length (now ends)) ⌝ }
+    ensures { λ _. ⌜ Split (now (s .entry)) count (now (pos .exit)) (now (ends .exit)) n ⌝ }
+{
+    let mut i: usize = 0;
+    let mut l: usize = 0;
+    while l < n {
+        let r = run_end(s, count, i, l);
+        pos[l] = (2 * i) as u32;
+        ends[l] = (2 * r) as u32;
+        i = r;
+        l += 1;
+    }
+}
+
+// The tree of all lanes' first events.
+pub fn start(s: &[u32], count: usize, pos: &[u32], ends: &[u32], t: &mut [u64], n: usize)
+    requires { ⌜ (4 * count ≤ length (now s)) × Queues (events (now s) 0 count) (now pos) (now ends) n × (2 * n ≤ length (now t)) ⌝ }
+    ensures { λ _. ⌜ Ready (events (now (s .entry)) 0 count) (now (pos .entry)) (now (ends .entry)) (now (t .exit)) n ⌝ }
+{
+    let mut l: usize = 0;
+    while l < n {
+        t[n + l] = head(s, count, pos[l] as usize, ends[l] as usize);
+        l += 1;
+    }
+    tree::build(t, n);
+}
+
+// Takes the first event of all that are left, of which there are some.
+pub fn take(s: &[u32], count: usize, pos: &mut [u32], ends: &[u32], t: &mut [u64], n: usize) -> u64
+    requires { ⌜ (4 * count ≤ length (now s)) × Ready (events (now s) 0 count) (now pos) (now ends) (now t) n × (getD (now t) 1 0 < done) ⌝ }
+    ensures { λ r. ⌜ Took (events (now (s .entry)) 0 count) (now (pos .entry)) (now (pos .exit)) (now (ends .entry)) (now (t .exit)) n r ⌝ }
+{
+    let k = t[1];
+    let lane = (k / 128 % 2048) as usize;
+    let e = ends[lane];
+    let p = pos[lane] + 1;
+    pos[lane] = p;
+    let next = head(s, count, p as usize, e as usize);
+    tree::replace(t, n, lane, next);
+    k
+}
