@@ -4,3 +4,4 @@ pub mod Events
 pub mod Sounding
 pub mod Reading
 pub mod Writing
+pub mod Examples
