@@ -1,0 +1,2 @@
+-- Events as numbers.
+pub mod Keys

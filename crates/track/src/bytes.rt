@@ -1,0 +1,33 @@
+// A few bytes written into an output.
+ghost use mathlib.Core.Path.{_≡_};
+ghost use mathlib.Core.List.{[], _∷_};
+ghost use Prim.Native.Nat.{_+_, _≤_};
+ghost use lib.ListN.{length};
+ghost use Rattle.words.specs.Splice.{splice};
+
+// Writes two bytes from place `at` on.
+pub fn put_two(out: &mut [u8], at: usize, a: u8, b: u8)
+    requires { ⌜ at + 2 ≤ length (now out) ⌝ }
+    ensures { λ _. ⌜ now (out .exit) ≡ splice (now (out .entry)) at (a ∷ b ∷ []) ⌝ }
+{
+    out[at] = a;
+    out[at + 1] = b;
+}
+
+// Writes three bytes from place `at` on.
+pub fn put_three(out: &mut [u8], at: usize, a: u8, b: u8, c: u8)
+    requires { ⌜ at + 3 ≤ length (now out) ⌝ }
+    ensures { λ _. ⌜ now (out .exit) ≡ splice (now (out .entry)) at (a ∷ b ∷ c ∷ []) ⌝ }
+{
+    put_two(out, at, a, b);
+    out[at + 2] = c;
+}
+
+// Writes four bytes from place `at` on.
+pub fn put_four(out: &mut [u8], at: usize, a: u8, b: u8, c: u8, d: u8)
+    requires { ⌜ at + 4 ≤ length (now out) ⌝ }
+    ensures { λ _. ⌜ now (out .exit) ≡ splice (now (out .entry)) at (a ∷ b ∷ c ∷ d ∷ []) ⌝ }
+{
+    put_two(out, at, a, b);
+    put_two(out, at + 2, c, d);
+}
