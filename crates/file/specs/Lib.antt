@@ -1,0 +1,1 @@
+-- The meaning of load and write.

@@ -1,0 +1,1 @@
+// The calls on files, exported to C.
