@@ -1,1 +1,2 @@
--- The meaning of load and write.
+-- Writing a shelf's file.
+pub mod Tracks

@@ -1,1 +1,2 @@
 // The calls on files, exported to C.
+pub mod tracks;

@@ -1,0 +1,30 @@
+-- The track of a take's notes as its code writes it, event by event; events are numbers. Assumes nothing.
+use mathlib.Core.Path.{_≡_}
+use mathlib.Core.List.{List, [], _∷_, map}
+use Prim.Native.Nat.{ℕ, _+_, _*_, _≤_, _<_}
+use lib.ListN.{length}
+use Rattle.words.specs.Splice.{splice}
+use Rattle.order.specs.Events.{events}
+use Rattle.order.specs.Queues.{Ready, merged}
+use Rattle.midi.specs.Writing.{eventBytes}
+use Rattle.track.specs.Keys.{tickOf, eventOf}
+
+-- The bytes of the events to come, the one before them at tick `last`, and of the end of track at `end`.
+abbrev pub trackLeft : ℕ → ℕ → List ℕ → List ℕ
+trackLeft end last ks = eventBytes end last (map eventOf ks)
+
+-- Events one after the other, from tick `last` to `end`.
+pub data Timed (end : ℕ) : ℕ → List ℕ → Type 0 where
+  over : {last : ℕ} → last ≤ end → Timed end last []
+  next : {last k : ℕ} {ks : List ℕ} → last ≤ tickOf k → Timed end (tickOf k) ks → Timed end last (k ∷ ks)
+
+-- The events that are left in the lanes of `count` notes.
+abbrev pub eventsLeft : List ℕ → ℕ → List ℕ → List ℕ → ℕ → List ℕ
+eventsLeft s count pos ends n = merged (events s 0 count) pos ends n
+
+-- What writing the events that are left asks: the lanes' tree, and events up to the end of track.
+pub record TrackAsks (s : List ℕ) (count : ℕ) (pos ends t : List ℕ) (n end : ℕ) : Type 0 where
+  pub inside : 4 * count ≤ length s
+  pub ready : Ready (events s 0 count) pos ends t n
+  pub timed : Timed end 0 (eventsLeft s count pos ends n)
+  pub short : end < 268435456
