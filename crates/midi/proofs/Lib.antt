@@ -4,3 +4,7 @@ pub mod Legal
 pub mod Loops
 pub mod Sorting
 pub mod ReadBack
+pub mod Replay
+pub mod Ranges
+pub mod NoteEvents
+pub mod Playing
