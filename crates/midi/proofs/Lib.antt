@@ -8,3 +8,6 @@ pub mod Replay
 pub mod Ranges
 pub mod NoteEvents
 pub mod Playing
+pub mod RoundTrip
+pub mod Recordings
+pub mod Lengths
