@@ -4,3 +4,10 @@ pub mod Legal
 pub mod Loops
 pub mod Sorting
 pub mod ReadBack
+pub mod Replay
+pub mod Ranges
+pub mod NoteEvents
+pub mod Playing
+pub mod RoundTrip
+pub mod Recordings
+pub mod Lengths

@@ -1,0 +1,166 @@
+-- What a written file takes: its numbers the fewest groups, each event three bytes behind its time, and the file a sum of these with
+-- a bound by its notes; and all of it is bytes. Assumes nothing.
+use mathlib.Core.Bool.{Bool, true, false}
+use mathlib.Core.List.{List, [], _∷_, _++_}
+use mathlib.Core.Path.{_≡_, refl, ap, _∙_}
+use Prim.Native.Nat.{ℕ, zero, suc, _+_, _-_, _*_, _/_, _%_, _^_, _≤_, _<_}
+use native.Mathlib.Nat.{mul-le-mul-right}
+use native.Mathlib.Omega.{arith}
+use lib.Dec.{leb, ltb}
+use lib.ListN.{length, length-append}
+use borrow.Author.Tests.{ltb-true, ltb-false}
+use Rattle.model.specs.Lists.{gather}
+use Rattle.model.specs.Soundness.{notesOk}
+use Rattle.model.specs.declared.Note.{Note}
+use Rattle.laws.specs.Relations.{All, all-append}
+use Rattle.midi.specs.Numbers.{quantityBytes}
+use Rattle.midi.specs.Writing.{NoteEvent, order, insert, inOrder, eventsOf, messageBytes, endOfTrack, eventBytes, trackBytes, headerBytes, fileBytes}
+use Rattle.midi.proofs.Branches.{by-test}
+use Rattle.midi.proofs.NoteEvents.{steps}
+use Rattle.midi.proofs.Ranges.{ok-fits}
+use Rattle.midi.proofs.ReadBack.{Writable}
+use Rattle.midi.proofs.Replay.{Steps}
+
+-- ---- the groups of a number
+
+-- One to four groups, and fewer would not do.
+pub record Fewest (n : ℕ) (bs : List ℕ) : Type 0 where
+  pub some : 1 ≤ length bs
+  pub four : length bs ≤ 4
+  pub need : 2 ≤ length bs → 128 ^ (length bs - 1) ≤ n
+
+pub quantity-fewest : (n : ℕ) → Fewest n (quantityBytes n)
+unfolding quantityBytes
+quantity-fewest n =
+    by-test (Fewest n) (ltb n 128) (λ a. record { some = omega arith; four = omega arith; need = λ k. absurd (omega arith) })
+    (λ a. by-test (Fewest n) (ltb n 16384) (λ c. let d = ltb-false n 128 a in record { some = omega arith; four = omega arith; need = λ k. d })
+    (λ c. by-test (Fewest n) (ltb n 2097152) (λ e. let d = ltb-false n 16384 c in record { some = omega arith; four = omega arith; need = λ k. d })
+    (λ e. let d = ltb-false n 2097152 e in record { some = omega arith; four = omega arith; need = λ k. d })))
+
+-- ---- lengths
+
+-- The bytes of the events to come: each has its time and three more; the end of track has its time and three.
+unfoldable pub eventsLength : ℕ → ℕ → List NoteEvent → ℕ
+eventsLength end last [] = length (quantityBytes (end - last)) + 3
+eventsLength end last (e ∷ es) = length (quantityBytes (e .tick - last)) + 3 + eventsLength end (e .tick) es
+
+pub message-length : (e : NoteEvent) → length (messageBytes e) ≡ 3
+unfolding messageBytes
+message-length e = refl
+
+pub events-length : (end last : ℕ) (es : List NoteEvent) → length (eventBytes end last es) ≡ eventsLength end last es
+unfolding eventBytes eventsLength
+events-length end last [] = length-append (quantityBytes (end - last)) endOfTrack
+events-length end last (e ∷ es) = go (events-length end (e .tick) es)
+  where
+    go : length (eventBytes end (e .tick) es) ≡ eventsLength end (e .tick) es
+        → length (quantityBytes (e .tick - last) ++ (messageBytes e ++ eventBytes end (e .tick) es))
+        ≡ length (quantityBytes (e .tick - last)) + 3 + eventsLength end (e .tick) es
+    go ih =
+        omega (
+          arith,
+          length-append (quantityBytes (e .tick - last)) (messageBytes e ++ eventBytes end (e .tick) es),
+          length-append (messageBytes e) (eventBytes end (e .tick) es),
+          message-length e,
+        )
+
+pub track-length : (δ beats : ℕ) (notes : List Note)
+    → length (trackBytes δ beats notes) ≡ eventsLength (beats * δ) 0 (inOrder (gather eventsOf notes))
+unfolding trackBytes
+track-length δ beats notes = events-length (beats * δ) 0 (inOrder (gather eventsOf notes))
+
+-- The file has 22 bytes in front of its events.
+pub file-length : (δ beats : ℕ) (notes : List Note)
+    → length (fileBytes δ beats notes) ≡ 22 + eventsLength (beats * δ) 0 (inOrder (gather eventsOf notes))
+unfolding fileBytes headerBytes
+file-length δ beats notes = omega (arith, track-length δ beats notes)
+
+-- ---- bounds
+
+events-most : (end last : ℕ) (es : List NoteEvent) → eventsLength end last es ≤ 7 * length es + 7
+unfolding eventsLength
+events-most end last [] = omega (arith, quantity-fewest (end - last) .four)
+events-most end last (e ∷ es) = go (events-most end (e .tick) es)
+  where
+    go : eventsLength end (e .tick) es ≤ 7 * length es + 7
+        → length (quantityBytes (e .tick - last)) + 3 + eventsLength end (e .tick) es ≤ 7 * suc (length es) + 7
+    go ih = omega (arith, quantity-fewest (e .tick - last) .four)
+
+insert-length : (e : NoteEvent) (xs : List NoteEvent) → length (insert e xs) ≡ suc (length xs)
+unfolding insert
+insert-length e [] = refl
+insert-length e (x ∷ xs) =
+    let ih = insert-length e xs in
+    by-test (λ (l : List NoteEvent). length l ≡ suc (suc (length xs))) (leb (order e) (order x)) (λ h. refl) (λ h. ap suc ih)
+
+in-order-length : (es : List NoteEvent) → length (inOrder es) ≡ length es
+unfolding inOrder
+in-order-length [] = refl
+in-order-length (e ∷ es) = insert-length e (inOrder es) ∙ ap suc (in-order-length es)
+
+gathered-length : (ns : List Note) → length (gather eventsOf ns) ≡ 2 * length ns
+gathered-length [] = refl
+gathered-length (n ∷ ns) = omega (arith, gathered-length ns)
+
+-- Two events for each note.
+pub events-count : (ns : List Note) → length (inOrder (gather eventsOf ns)) ≡ 2 * length ns
+events-count ns = in-order-length (gather eventsOf ns) ∙ gathered-length ns
+
+-- At most four bytes of time and three more for each of a note's two events and for the end of track, behind 14 and 8 bytes.
+pub file-most : (δ beats : ℕ) (notes : List Note) → length (fileBytes δ beats notes) ≤ 14 + 8 + 2 * length notes * (3 + 4) + 4 + 3
+file-most δ beats notes =
+    let es = inOrder (gather eventsOf notes) in
+    omega (arith, file-length δ beats notes, events-most (beats * δ) 0 es, events-count notes)
+
+pub track-most : (δ beats : ℕ) (notes : List Note) → length (trackBytes δ beats notes) ≤ 14 * length notes + 7
+track-most δ beats notes =
+    let es = inOrder (gather eventsOf notes) in
+    omega (arith, track-length δ beats notes, events-most (beats * δ) 0 es, events-count notes)
+
+-- ---- bytes
+
+abbrev pub Bytes : List ℕ → Type 0
+Bytes = All (λ b. b < 256)
+
+pub quantity-bytes : (n : ℕ) → n < 268435456 → Bytes (quantityBytes n)
+unfolding quantityBytes
+quantity-bytes n h =
+    by-test Bytes (ltb n 128) (λ a. let b = ltb-true n 128 a in (omega arith, tt))
+    (λ a. by-test Bytes (ltb n 16384) (λ c. let d = ltb-true n 16384 c in (omega arith, (omega arith, tt)))
+    (λ c. by-test Bytes (ltb n 2097152) (λ e. let f = ltb-true n 2097152 e in (omega arith, (omega arith, (omega arith, tt))))
+    (λ e. (omega arith, (omega arith, (omega arith, (omega arith, tt)))))))
+
+pub message-bytes : (e : NoteEvent) → Writable e → Bytes (messageBytes e)
+unfolding messageBytes
+message-bytes e w = (omega (arith, w .lane-low, w .kind-low), (omega arith, (omega (arith, w .soft), tt)))
+
+event-bytes : (end last : ℕ) (es : List NoteEvent) → end < 268435456 → Steps end last es → Bytes (eventBytes end last es)
+unfolding eventBytes
+event-bytes end last [] h s =
+    all-append (λ b. b < 256) (quantityBytes (end - last)) endOfTrack (quantity-bytes (end - last) (omega arith)) (omega arith, (omega arith, (omega arith, tt)))
+event-bytes end last (e ∷ es) h s =
+    all-append (λ b. b < 256) (quantityBytes (e .tick - last)) (messageBytes e ++ eventBytes end (e .tick) es)
+    (quantity-bytes (e .tick - last) (omega (arith, s .2)))
+    (all-append (λ b. b < 256) (messageBytes e) (eventBytes end (e .tick) es) (message-bytes e (s .0)) (event-bytes end (e .tick) es h (s .3)))
+
+header-bytes : (δ n : ℕ) → δ < 65536 → n < 4294967296 → Bytes (headerBytes δ n)
+unfolding headerBytes
+header-bytes δ n h k =
+    all-append (λ b. b < 256) (77 ∷ 84 ∷ 104 ∷ 100 ∷ 0 ∷ 0 ∷ 0 ∷ 6 ∷ []) (0 ∷ 0 ∷ 0 ∷ 1 ∷ δ / 256 ∷ δ % 256 ∷ track)
+    (omega arith, (omega arith, (omega arith, (omega arith, (omega arith, (omega arith, (omega arith, (omega arith, tt))))))))
+    (all-append (λ b. b < 256) (0 ∷ 0 ∷ 0 ∷ 1 ∷ δ / 256 ∷ δ % 256 ∷ []) track
+    (omega arith, (omega arith, (omega arith, (omega arith, (omega arith, (omega arith, tt))))))
+    (omega arith, (omega arith, (omega arith, (omega arith, (omega arith, (omega arith, (omega arith, (omega arith, tt)))))))))
+  where
+    track : List ℕ
+    track = 77 ∷ 84 ∷ 114 ∷ 107 ∷ n / 16777216 ∷ n / 65536 % 256 ∷ n / 256 % 256 ∷ n % 256 ∷ []
+
+-- A file of notes that pass the test of a note list, and of fewer than 300 million of them, is bytes.
+pub file-bytes : (δ beats : ℕ) (notes : List Note) → δ ≤ 32767 → beats ≤ 4096 → notesOk δ beats notes ≡ true → length notes < 300000000
+    → Bytes (fileBytes δ beats notes)
+unfolding fileBytes trackBytes
+file-bytes δ beats notes small short ok few =
+    let t = trackBytes δ beats notes in
+    let k : beats * δ ≤ 4096 * δ = mul-le-mul-right δ short in
+    all-append (λ b. b < 256) (headerBytes δ (length t)) t (header-bytes δ (length t) (omega arith) (omega (arith, track-most δ beats notes)))
+    (event-bytes (beats * δ) 0 (inOrder (gather eventsOf notes)) (omega arith) (steps (beats * δ) notes (ok-fits δ beats notes ok)))

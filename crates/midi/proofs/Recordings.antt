@@ -1,0 +1,299 @@
+-- Whatever a file holds, what it is read as is a recording that lay accepts: at most 4,096 beats, its notes in range, in order and
+-- without overlap in a lane. Assumes nothing.
+use mathlib.Core.Bool.{Bool, true, false, _&&_}
+use mathlib.Core.List.{List, [], _∷_, _++_, append-nil}
+use mathlib.Core.Logic.{_≢_}
+use mathlib.Core.Path.{_≡_, refl, sym, ap, _∙_}
+use Prim.Native.Nat.{ℕ, zero, suc, _+_, _-_, _*_, _/_, _≤_, _<_}
+use native.Mathlib.Decide.{ℕ-discrete}
+use native.Mathlib.Nat.{lt-div-mul-add, div-lt-iff-lt-mul}
+use native.Mathlib.Omega.{arith}
+use lib.Dec.{leb, ltb, eqb}
+use lib.ListN.{length, take, drop}
+use borrow.Author.Tests.{eq-eqb, eqb-true, leb-true, ltb-true, ne-eqb}
+use Rattle.model.specs.Lists.{consIf, countFrom, gather}
+use Rattle.model.specs.Histories.{Recording}
+use Rattle.model.specs.Takes.{byLane, lanes}
+use Rattle.model.specs.declared.Note.{Note}
+use Rattle.laws.specs.Booleans.{and-left, and-right}
+use Rattle.laws.specs.Lists.{gather-one, keep-append, keep-gather}
+use Rattle.laws.specs.Notes.{Follow, above, later}
+use Rattle.laws.specs.OneNote.{Valid}
+use Rattle.laws.specs.Relations.{All, Pairs, all-append, all-imp, all-kept, pairs-append}
+use Rattle.midi.specs.Lanes.{laneAt, putLane}
+use Rattle.midi.specs.Numbers.{word32}
+use Rattle.midi.specs.Events.{Place, place, Message, starts, ends, passed, Event, illegal, event, finished, eventAt}
+use Rattle.midi.specs.Sounding.{Sounding, silence, startLane, stopLane, ended, endedLane, endedAll, Played, clash, played, play}
+use Rattle.midi.specs.Reading.{
+  FileAnswer,
+  refused,
+  read,
+  beatsOf,
+  recorded,
+  latest,
+  after,
+  run,
+  readTrack,
+  headerThere,
+  headerFits,
+  Chunk,
+  noTrack,
+  track,
+  trackFrom,
+  readFile,
+}
+use Rattle.midi.proofs.Branches.{by-test}
+use Rattle.midi.proofs.Legal.{Moves, InRange, Legal, legal}
+use Rattle.midi.proofs.Playing.{laneNotes, noteAt}
+use Rattle.midi.proofs.Ranges.{Fits, fits-later, fits-ok}
+use Rattle.midi.proofs.Tables.{Shaped, shaped-new, put-shaped, lane-put, lane-other, lane-new}
+
+all-two : {A : Type 0} (P Q S : A → Type 0) (xs : List A) → ((x : A) → P x → Q x → S x) → All P xs → All Q xs → All S xs
+all-two P Q S [] f a b = tt
+all-two P Q S (x ∷ xs) f a b = (f x (a .0) (b .0), all-two P Q S xs f (a .1) (b .1))
+
+-- ---- what holds at each place of a track
+
+-- The notes ended so far in a lane, and what sounds there.
+pub record LaneHolds (tick start velocity : ℕ) (ns : List Note) : Type 0 where
+  pub fits : All (Fits tick) ns
+  pub order : Pairs Follow ns
+  pub soft : velocity ≤ 127
+  pub free : 1 ≤ velocity → All (λ n. n .end ≤ start) ns
+
+pub record Holds (tick : ℕ) (t : Sounding) (notes : List Note) : Type 0 where
+  pub starts : Shaped (t .start)
+  pub velocities : Shaped (t .velocity)
+  pub lane : (l : ℕ) → l < 2048 → LaneHolds tick (laneAt (t .start) l) (laneAt (t .velocity) l) (laneNotes l notes)
+
+pub holds-start : Holds 0 silence []
+holds-start = record {
+  starts = shaped-new 0;
+  velocities = shaped-new 0;
+  lane = λ l h. record { fits = tt; order = tt; soft = omega (arith, lane-new l 0 h); free = λ k. tt };
+}
+
+pub holds-later : (u v : ℕ) (t : Sounding) (notes : List Note) → u ≤ v → Holds u t notes → Holds v t notes
+holds-later u v t notes h i = record {
+  starts = i .starts;
+  velocities = i .velocities;
+  lane = λ l k.
+      let j = i .lane l k in
+      record { fits = all-imp (Fits u) (Fits v) (laneNotes l notes) (fits-later u v h) (j .fits); order = j .order; soft = j .soft; free = j .free };
+}
+
+-- a note starts
+start-holds : (tick l v : ℕ) (t : Sounding) (notes : List Note) → l < 2048 → v < 128 → Holds tick t notes → Holds tick (startLane t l tick v) notes
+start-holds tick l v t notes h k i = record {
+  starts = put-shaped (t .start) (i .starts) l tick h;
+  velocities = put-shaped (t .velocity) (i .velocities) l v h;
+  lane = λ j m. go j m (ℕ-discrete j l);
+}
+  where
+    go : (j : ℕ) → j < 2048 → Dec (j ≡ l) → LaneHolds tick (laneAt (putLane (t .start) l tick) j) (laneAt (putLane (t .velocity) l v) j) (laneNotes j notes)
+    go j m (yes d) =
+        let w = i .lane l h in
+        rw (d, lane-put (t .start) (i .starts) l tick h, lane-put (t .velocity) (i .velocities) l v h)
+        (record {
+          fits = w .fits;
+          order = w .order;
+          soft = omega arith;
+          free = λ z. all-imp (Fits tick) (λ n. n .end ≤ tick) (laneNotes l notes) (λ n f. f .within) (w .fits);
+        })
+    go j m (no d) = rw (lane-other (t .start) (i .starts) l tick h j d, lane-other (t .velocity) (i .velocities) l v h j d) (i .lane j m)
+
+-- ---- a note ends
+
+record Ended (tick l : ℕ) (ns : List Note) : Type 0 where
+  fits : All (Fits tick) ns
+  order : Pairs Follow ns
+
+pub lane-of : (l : ℕ) (notes : List Note) → All (λ n. n .lane ≡ l) (laneNotes l notes)
+lane-of l notes =
+    all-imp (λ n. eqb (n .lane) l ≡ true) (λ n. n .lane ≡ l) (laneNotes l notes) (λ n e. eqb-true (n .lane) l e) (all-kept (λ n. eqb (n .lane) l) notes)
+
+add-ended : (tick l start velocity : ℕ) (ns : List Note) → l < 2048 → All (λ n. n .lane ≡ l) ns → LaneHolds tick start velocity ns
+    → Ended tick l (ns ++ ended l start velocity tick)
+unfolding ended
+add-ended tick l start velocity ns h o i = go (ltb 0 velocity && ltb start tick) refl
+  where
+    go : (b : Bool) → (ltb 0 velocity && ltb start tick) ≡ b → Ended tick l (ns ++ consIf b (noteAt l start tick velocity) [])
+    go true e =
+        let p = ltb-true 0 velocity (and-left (ltb 0 velocity) (ltb start tick) e) in
+        let q = ltb-true start tick (and-right (ltb 0 velocity) (ltb start tick) e) in
+        let n = noteAt l start tick velocity in
+        record {
+          fits = all-append (Fits tick) ns (n ∷ []) (i .fits) (record { low = h; long = q; within = omega arith; loud = p; soft = i .soft }, tt);
+          order = pairs-append Follow ns (n ∷ []) (i .order) (tt, tt)
+              (all-two (λ m. m .lane ≡ l) (λ m. m .end ≤ start) (λ m. All (Follow m) (n ∷ [])) ns (λ m a b. (later a b, tt)) o (i .free p));
+        }
+    go false e = rw append-nil (record { fits = i .fits; order = i .order })
+
+-- The note that ends stands in its own lane, and in no other.
+pub ended-own : (l start velocity tick : ℕ) → laneNotes l (ended l start velocity tick) ≡ ended l start velocity tick
+unfolding ended
+ended-own l start velocity tick = go (ltb 0 velocity && ltb start tick)
+  where
+    go : (b : Bool) → laneNotes l (consIf b (noteAt l start tick velocity) []) ≡ consIf b (noteAt l start tick velocity) []
+    go true = rw (eq-eqb l l refl)
+    go false = refl
+
+pub ended-other : (j l start velocity tick : ℕ) → j ≢ l → laneNotes j (ended l start velocity tick) ≡ []
+unfolding ended
+ended-other j l start velocity tick d = go (ltb 0 velocity && ltb start tick)
+  where
+    go : (b : Bool) → laneNotes j (consIf b (noteAt l start tick velocity) []) ≡ []
+    go true = rw (ne-eqb l j (λ e. d (sym e)))
+    go false = refl
+
+stop-holds : (tick l : ℕ) (t : Sounding) (notes : List Note) → l < 2048 → Holds tick t notes → Holds tick (stopLane t l) (notes ++ endedLane t tick l)
+stop-holds tick l t notes h i = record {
+  starts = i .starts;
+  velocities = put-shaped (t .velocity) (i .velocities) l 0 h;
+  lane = λ j m. go j m (ℕ-discrete j l);
+}
+  where
+    go : (j : ℕ) → j < 2048 → Dec (j ≡ l)
+        → LaneHolds tick (laneAt (t .start) j) (laneAt (putLane (t .velocity) l 0) j) (laneNotes j (notes ++ endedLane t tick l))
+    go j m (yes d) =
+        let w = add-ended tick l (laneAt (t .start) l) (laneAt (t .velocity) l) (laneNotes l notes) h (lane-of l notes) (i .lane l h) in
+        rw (
+          d,
+          lane-put (t .velocity) (i .velocities) l 0 h,
+          keep-append (λ n. eqb (n .lane) l) notes (endedLane t tick l),
+          ended-own l (laneAt (t .start) l) (laneAt (t .velocity) l) tick,
+        )
+        (record { fits = w .fits; order = w .order; soft = omega arith; free = λ z. absurd (omega arith) })
+    go j m (no d) =
+        rw (
+          lane-other (t .velocity) (i .velocities) l 0 h j d,
+          keep-append (λ n. eqb (n .lane) j) notes (endedLane t tick l),
+          ended-other j l (laneAt (t .start) l) (laneAt (t .velocity) l) tick d,
+          append-nil,
+        )
+        (i .lane j m)
+
+-- ---- a message
+
+abbrev pub PlayHolds : ℕ → Played → Type 0
+PlayHolds tick clash = Unit {0}
+PlayHolds tick (played t notes) = Holds tick t notes
+
+pub play-holds : (tick : ℕ) (m : Message) (t : Sounding) (notes : List Note) → InRange m → Holds tick t notes → PlayHolds tick (play tick m t notes)
+unfolding play
+play-holds tick (starts l v) t notes r i =
+    by-test (PlayHolds tick) (eqb (laneAt (t .velocity) l) 0) (λ e. start-holds tick l v t notes (r .0) (r .2) i) (λ e. tt)
+play-holds tick (ends l) t notes r i = stop-holds tick l t notes r i
+play-holds tick passed t notes r i = i
+
+-- ---- the end of track
+
+record InLanes (tick i : ℕ) (ns : List Note) : Type 0 where
+  fits : All (Fits tick) ns
+  order : Pairs Follow ns
+  low : All (λ n. i ≤ n .lane) ns
+
+in-lanes : (tick : ℕ) (f : ℕ → List Note) → ((l : ℕ) → l < 2048 → Ended tick l (f l)) → ((l : ℕ) → All (λ n. n .lane ≡ l) (f l))
+    → (n i : ℕ) → i + n ≤ 2048 → InLanes tick i (gather f (countFrom n i))
+in-lanes tick f g o zero i h = record { fits = tt; order = tt; low = tt }
+in-lanes tick f g o (suc n) i h =
+    let w = g i (omega arith) in
+    let u = in-lanes tick f g o n (suc i) (omega arith) in
+    let ys = gather f (countFrom n (suc i)) in
+    record {
+      fits = all-append (Fits tick) (f i) ys (w .fits) (u .fits);
+      order = pairs-append Follow (f i) ys (w .order) (u .order)
+          (all-imp (λ m. m .lane ≡ i) (λ m. All (Follow m) ys) (f i)
+          (λ m e. all-imp (λ k. suc i ≤ k .lane) (Follow m) ys (λ k a. above (omega arith)) (u .low)) (o i));
+      low = all-append (λ m. i ≤ m .lane) (f i) ys (all-imp (λ m. m .lane ≡ i) (λ m. i ≤ m .lane) (f i) (λ m e. omega arith) (o i))
+          (all-imp (λ m. suc i ≤ m .lane) (λ m. i ≤ m .lane) ys (λ m e. omega arith) (u .low));
+    }
+
+-- A lane at the end of track.
+pub lane-end : (tick : ℕ) (t : Sounding) (notes : List Note) (l : ℕ) → l < 2048
+    → laneNotes l (notes ++ endedAll t tick) ≡ laneNotes l notes ++ endedLane t tick l
+lane-end tick t notes l h =
+    keep-append (λ n. eqb (n .lane) l) notes (endedAll t tick)
+    ∙ ap (λ xs. laneNotes l notes ++ xs)
+    (keep-gather (λ n. eqb (n .lane) l) (endedLane t tick) lanes
+    ∙ gather-one (λ j. laneNotes l (endedLane t tick j)) 2048 0 l (omega arith) h
+    (λ j d. ended-other l j (laneAt (t .start) j) (laneAt (t .velocity) j) tick (λ e. d (sym e)))
+    ∙ ended-own l (laneAt (t .start) l) (laneAt (t .velocity) l) tick)
+
+module _ (δ : ℕ) (z : 1 ≤ δ) where
+  pub recorded-valid : (tick : ℕ) (t : Sounding) (notes : List Note) → tick ≤ latest δ → Holds tick t notes → Valid δ (recorded δ tick t notes)
+  unfolding recorded byLane
+  recorded-valid tick t notes h i = (
+    few,
+    fits-ok δ (beatsOf δ tick) (gather (λ l. laneNotes l all) lanes)
+        (all-imp (Fits tick) (Fits (beatsOf δ tick * δ)) (gather (λ l. laneNotes l all) lanes) (fits-later tick (beatsOf δ tick * δ) top) (w .fits)) (w .order),
+  )
+    where
+      all : List Note
+      all = notes ++ endedAll t tick
+
+      few : beatsOf δ tick ≤ 4096
+      few = let a = div-lt-iff-lt-mul {k = δ} {x = tick + (δ - 1)} {y = 4097} z .1 (omega arith) in omega arith
+
+      top : tick ≤ beatsOf δ tick * δ
+      top = omega (arith, lt-div-mul-add {a = tick + (δ - 1)} {b = δ} z)
+
+      w : InLanes tick 0 (gather (λ l. laneNotes l all) lanes)
+      w = in-lanes tick (λ l. laneNotes l all)
+          (λ l k. rw (lane-end tick t notes l k) (add-ended tick l (laneAt (t .start) l) (laneAt (t .velocity) l) (laneNotes l notes) k (lane-of l notes) (i .lane l k)))
+          (λ l. lane-of l all) 2048 0 (omega arith)
+
+  -- ---- tracks and files
+
+  -- A refusal has a number from 9 to 14; what is read is a valid recording.
+  abbrev pub Sound : FileAnswer → Type 0
+  Sound (refused n) = (9 ≤ n) × (n ≤ 14)
+  Sound (read r) = Valid δ r
+
+  by-played : (tick : ℕ) (r : Played) (more : Sounding → List Note → FileAnswer) → PlayHolds tick r
+      → ((t : Sounding) (notes : List Note) → Holds tick t notes → Sound (more t notes))
+      → Sound (elim r [ clash ↦ refused 14 | played t notes ↦ more t notes ])
+  by-played tick clash more h f = (omega arith, omega arith)
+  by-played tick (played t notes) more h f = f t notes h
+
+  after-sound : (s : List ℕ) (p : Place) (e : Event) (t : Sounding) (notes : List Note) (more : Place → Sounding → List Note → FileAnswer)
+      → ((q : Place) (t : Sounding) (notes : List Note) → Holds (q .tick) t notes → Sound (more q t notes)) → Legal s p e → Holds (p .tick) t notes
+      → Sound (after δ e t notes more)
+  unfolding after
+  after-sound s p illegal t notes more f l i = (omega arith, omega arith)
+  after-sound s p (event q m) t notes more f l i =
+      by-test Sound (leb (q .tick) (latest δ))
+      (λ a. by-played (q .tick) (play (q .tick) m t notes) (more q)
+      (play-holds (q .tick) m t notes (l .1) (holds-later (p .tick) (q .tick) t notes (l .0 .not-back) i)) (f q))
+      (λ a. (omega arith, omega arith))
+  after-sound s p (finished tick) t notes more f l i =
+      by-test Sound (leb tick (latest δ)) (λ a. recorded-valid tick t notes (leb-true tick (latest δ) a) (holds-later (p .tick) tick t notes l i)) (λ a. (omega arith, omega arith))
+
+  run-sound : (fuel : ℕ) (s : List ℕ) (p : Place) (t : Sounding) (notes : List Note) → Holds (p .tick) t notes → Sound (run fuel δ s p t notes)
+  unfolding run
+  run-sound zero s p t notes i = (omega arith, omega arith)
+  run-sound (suc fuel) s p t notes i =
+      after-sound s p (eventAt s p) t notes (λ p t notes. run fuel δ s p t notes) (λ q t notes j. run-sound fuel s q t notes j) (legal s p) i
+
+  pub track-sound : (s : List ℕ) → Sound (readTrack δ s)
+  unfolding readTrack
+  track-sound s = run-sound (suc (length s)) s (place 0 0 0) silence [] holds-start
+
+  by-chunk : (c : Chunk) (f : ℕ → ℕ → FileAnswer) → ((at n : ℕ) → Sound (f at n)) → Sound (elim c [ noTrack ↦ refused 11 | track at n ↦ f at n ])
+  by-chunk noTrack f h = (omega arith, omega arith)
+  by-chunk (track at n) f h = h at n
+
+  pub file-sound : (s : List ℕ) → Sound (readFile δ s)
+  unfolding readFile
+  file-sound s =
+      by-test Sound (headerThere s)
+      (λ a. by-test Sound (headerFits δ s)
+      (λ b. by-chunk (trackFrom (length s) s (8 + word32 s 4)) (λ at n. readTrack δ (take n (drop at s))) (λ at n. track-sound (take n (drop at s))))
+      (λ b. (omega arith, omega arith)))
+      (λ a. (omega arith, omega arith))
+
+  pub read-valid : (s : List ℕ) (r : Recording) → readFile δ s ≡ read r → Valid δ r
+  read-valid s r e = rw e at (file-sound s)
+
+  pub refused-number : (s : List ℕ) (n : ℕ) → readFile δ s ≡ refused n → (9 ≤ n) × (n ≤ 14)
+  refused-number s n e = rw e at (file-sound s)
