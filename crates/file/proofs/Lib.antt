@@ -1,3 +1,5 @@
 -- What the proofs of several functions share.
 pub mod Keys
 pub mod EventLoops
+pub mod Shelves
+pub mod Written

@@ -1,2 +1,4 @@
-// The calls on files, exported to C.
+// The calls on files, exported to C: write.
+pub mod files;
 pub mod tracks;
+pub mod writing;

@@ -1,9 +1,10 @@
 // A few bytes written into an output.
 ghost use mathlib.Core.Path.{_≡_};
 ghost use mathlib.Core.List.{[], _∷_};
-ghost use Prim.Native.Nat.{_+_, _≤_};
+ghost use Prim.Native.Nat.{_+_, _≤_, _<_};
 ghost use lib.ListN.{length};
 ghost use Rattle.words.specs.Splice.{splice};
+ghost use Rattle.midi.specs.Numbers.{word16Bytes, word32Bytes};
 
 // Writes two bytes from place `at` on.
 pub fn put_two(out: &mut [u8], at: usize, a: u8, b: u8)
@@ -30,4 +31,27 @@ pub fn put_four(out: &mut [u8], at: usize, a: u8, b: u8, c: u8, d: u8)
 {
     put_two(out, at, a, b);
     put_two(out, at + 2, c, d);
+}
+
+// Writes a number as two bytes, high byte first, from place `at` on.
+pub fn put_word16(out: &mut [u8], at: usize, n: u32)
+    requires { ⌜ (n < 65536) × (at + 2 ≤ length (now out)) ⌝ }
+    ensures { λ _. ⌜ now (out .exit) ≡ splice (now (out .entry)) at (word16Bytes n) ⌝ }
+{
+    put_two(out, at, (n / 256) as u8, (n % 256) as u8);
+}
+
+// Writes a number as four bytes, high byte first, from place `at` on.
+pub fn put_word32(out: &mut [u8], at: usize, n: u32)
+    requires { ⌜ at + 4 ≤ length (now out) ⌝ }
+    ensures { λ _. ⌜ now (out .exit) ≡ splice (now (out .entry)) at (word32Bytes n) ⌝ }
+{
+    put_four(
+        out,
+        at,
+        (n / 16777216) as u8,
+        (n / 65536 % 256) as u8,
+        (n / 256 % 256) as u8,
+        (n % 256) as u8,
+    );
 }

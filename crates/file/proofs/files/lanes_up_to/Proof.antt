@@ -1,0 +1,54 @@
+-- `file::files::lanes_up_to` meets its contract: the last note has the highest lane. Assumes nothing.
+use Rattle.file.proofs.Shelves.{lanes-none, lanes-last}
+use native.Mathlib.Omega.{arith}
+use Prim.Native.Nat.{_+_, _*_, _-_, _<_}
+use borrow.Author.Needs.{needs}
+use Rattle.file.proofs.files.lanes_up_to.Statement.{statement}
+use Rattle.file.proofs.files.lanes_up_to.Tie as tie
+use Rattle.file.proofs.files.lanes_up_to.Reads as reads
+use Rattle.file.proofs.files.lanes_up_to.Lts as lts
+
+-- src/files.rt:24:9
+returns : tie.Need-returns
+returns c = lanes-none _ _ (c .if1 .taken)
+
+-- src/files.rt:26:12
+sub-result : tie.Need-sub-result
+sub-result c = search needs
+
+-- src/files.rt:26:7
+mul-result : tie.Need-mul-result
+mul-result c = search needs
+
+-- src/files.rt:26:5
+mul-result-2 : tie.Need-mul-result-2
+mul-result-2 c = search needs
+
+-- src/files.rt:26:5
+shared-slice-read-result : tie.Need-shared-slice-read-result
+shared-slice-read-result c = search needs
+
+-- src/files.rt:26:5
+cast-result : tie.Need-cast-result
+cast-result c = omega (arith, c .shared-slice-known .given (4 * (c .before .before .args .count - 1)))
+
+-- src/files.rt:26:5
+add-result : tie.Need-add-result
+add-result c = omega (arith, c .shared-slice-known .given (4 * (c .before .before .args .count - 1)))
+
+-- src/files.rt:19:1
+returns-2 : tie.Need-returns-2
+returns-2 c = lanes-last _ _ (c .before .before .pre) (omega arith)
+
+pub lanes-up-to-spec : {M : Type 1} → statement M
+lanes-up-to-spec =
+    tie.close
+    (tie.spec
+    returns
+    sub-result
+    mul-result
+    mul-result-2
+    shared-slice-read-result
+    cast-result
+    add-result
+    returns-2)
