@@ -3,3 +3,4 @@ pub mod Keys
 pub mod EventLoops
 pub mod Shelves
 pub mod Written
+pub mod Parts

@@ -9,9 +9,10 @@ use Rattle.words.specs.Splice.{splice}
 use Rattle.tree.specs.Sort.{sort}
 use Rattle.order.specs.Events.{laneAt, events}
 use Rattle.order.specs.Queues.{Ready}
-use Rattle.model.specs.Limits.{maxBeats, maxDelta}
-use Rattle.model.specs.Soundness.{notesOk}
-use Rattle.model.specs.Takes.{readNotes}
+use Rattle.model.specs.Limits.{maxBeats, maxDelta, maxWords}
+use Rattle.model.specs.Soundness.{notesOk, soundShelf}
+use Rattle.model.specs.Takes.{word, readNotes, notesIn}
+use Rattle.model.specs.declared.Header.{Header}
 use Rattle.midi.specs.Writing.{fileBytes}
 use Rattle.file.specs.Tracks.{eventsLeft}
 
@@ -22,6 +23,14 @@ pub record FileAsks (s : List ℕ) (count δ beats : ℕ) : Type 0 where
   pub delta-low : δ ≤ maxDelta
   pub beats-few : beats ≤ maxBeats
   pub ok : notesOk δ beats (readNotes count s) ≡ true
+
+-- The words of a sound shelf.
+pub record PartAsks (h : Header) (ws : List ℕ) : Type 0 where
+  pub some-ticks : 0 < h .delta
+  pub few-ticks : h .delta ≤ maxDelta
+  pub small : h .words ≤ maxWords
+  pub whole : length ws ≡ h .words
+  pub sound : soundShelf h ws ≡ true
 
 -- All the notes' lanes are below n.
 pub record LanesBelow (s : List ℕ) (count n : ℕ) : Type 0 where
@@ -34,9 +43,12 @@ pub record Started (s : List ℕ) (count : ℕ) (pos ends t : List ℕ) (n : ℕ
   pub ready : Ready (events s 0 count) pos ends t n
   pub all : eventsLeft s count pos ends n ≡ sort (events s 0 count)
 
--- The file, its length if it fits an output, and else 0; and the output with it.
+-- The file of some notes' words, and of a shelf's words; its length if it fits an output, and else 0; and the output with it.
 abbrev pub fileOf : List ℕ → ℕ → ℕ → ℕ → List ℕ
 fileOf s count δ beats = fileBytes δ beats (readNotes count s)
+
+abbrev pub fileIn : Header → List ℕ → List ℕ
+fileIn h ws = fileBytes (h .delta) (word ws 0) (notesIn ws)
 
 abbrev pub countOf : List ℕ → List ℕ → ℕ
 countOf file out = cond (leb (length file) (length out)) (length file) 0

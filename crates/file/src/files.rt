@@ -7,8 +7,9 @@ ghost use Rattle.words.specs.Splice.{splice};
 ghost use Rattle.order.specs.Events.{Ordered};
 ghost use Rattle.model.specs.Limits.{maxDelta};
 ghost use Rattle.midi.specs.Writing.{headerBytes};
-ghost use Rattle.file.specs.Files.{FileAsks, LanesBelow, Started, fileOf, countOf, outputOf};
+ghost use Rattle.file.specs.Files.{FileAsks, PartAsks, LanesBelow, Started, fileOf, fileIn, countOf, outputOf};
 use crate::tracks;
+use model::Header;
 use track::bytes;
 
 // MThd, MTrk: the names of chunks.
@@ -99,4 +100,13 @@ pub fn put_file(s: &[u32], count: usize, delta: u32, beats: u32, out: &mut [u8])
     let behind = tracks::put_left(s, count, &mut pos, &ends, &mut t, n, end, out, 22);
     put_header(out, delta, (behind - 22) as u32);
     behind
+}
+
+// The file of a sound shelf's words, if it fits the output. Returns its length, or 0 if it does not fit.
+pub fn put_shelf_file(h: Header, part: &[u32], out: &mut [u8]) -> usize
+    requires { ⌜ PartAsks h (now part) ⌝ }
+    ensures { λ r. ⌜ (r ≡ countOf (fileIn h (now (part .entry))) (now (out .entry))) × (now (out .exit) ≡ outputOf (fileIn h (now (part .entry))) (now (out .entry))) ⌝ }
+{
+    let count = part[1] as usize;
+    put_file(&part[3..part.len()], count, h.delta, part[0], out)
 }

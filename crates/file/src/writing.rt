@@ -23,16 +23,7 @@ pub extern "C" fn take_write(session: &[u32], shelf: u32, output: &mut [u8], cou
             if !sound::sound(h, &session[at..end]) {
                 return 4;
             }
-            let notes = session[at + 1] as usize;
-            let first = at + 3;
-            let behind = first + 4 * notes;
-            let size = files::put_file(
-                &session[first..behind],
-                notes,
-                h.delta,
-                session[at],
-                output,
-            );
+            let size = files::put_shelf_file(h, &session[at..end], output);
             if size == 0 {
                 return 15;
             }

@@ -10,3 +10,4 @@ pub mod Chains
 pub mod Walks
 pub mod Standings
 pub mod Shelves
+pub mod Sources

@@ -1,0 +1,142 @@
+-- The words of a sound shelf: what its notes give, and the number, count and output of a write by the way that it goes. Assumes nothing.
+use mathlib.Core.Path.{_≡_, refl, sym, ap, _∙_}
+use mathlib.Core.Bool.{Bool, true, false, cond, not, true≢false}
+use mathlib.Core.List.{List, [], _∷_}
+use Prim.Native.Nat.{ℕ, zero, suc, _+_, _-_, _*_, _≤_, _<_}
+use native.Mathlib.Nat.{not-suc-le-zero}
+use native.Mathlib.Omega.{arith}
+use borrow.Author.Tests.{leb-true, leb-false, lt-ltb, not-true, not-false}
+use lib.Dec.{leb, ltb}
+use lib.ListN.{length, take, drop, length-drop}
+use lib.Seq.{take-all}
+use Rattle.words.specs.Splice.{splice}
+use Rattle.model.specs.Questions.{headerOk, firstNo}
+use Rattle.model.specs.Session.{headerOf, wordsOfHeader, shelf}
+use Rattle.model.specs.Soundness.{soundShelf, notesOk}
+use Rattle.model.specs.Takes.{word, readNotes, notesIn}
+use Rattle.model.specs.declared.Header.{Header}
+use Rattle.laws.specs.Clauses.{sound-chain}
+use Rattle.laws.specs.ChainSolid.{Parts, parts}
+use Rattle.midi.specs.Writing.{fileBytes}
+use Rattle.session.proofs.Entries.{Entered}
+use Rattle.session.specs.Entering.{entryOf, entryAsked}
+use Rattle.session.specs.declared.header.Entry.the-variants as entries
+use Rattle.file.specs.Calls.{shelfFile, fileFits, writeQuestions, writeNumber, writeCount, writeOutput}
+use Rattle.file.specs.Files.{FileAsks, PartAsks, fileOf, fileIn, countOf, outputOf}
+use Rattle.file.proofs.Written.{file-length}
+
+module _ (h : Header) (ws : List ℕ) (a : PartAsks h ws) where
+  given : Parts h ws
+  given = parts h ws (sym (sound-chain h (a .some-ticks) ws) ∙ a .sound)
+
+  -- the part behind the three counts
+  pub behind-counts : take (length ws - 3) (drop 3 ws) ≡ drop 3 ws
+  behind-counts = take-all (length ws - 3) (drop 3 ws) (omega (arith, length-drop 3 ws))
+
+  pub counts-inside : 3 ≤ length ws
+  counts-inside = omega (arith, given .used-ok, a .whole)
+
+  pub notes-few : word ws 1 < 1048576
+  notes-few = omega (arith, given .used-ok, a .small)
+
+  pub file-asks : FileAsks (take (length ws - 3) (drop 3 ws)) (word ws 1) (h .delta) (word ws 0)
+  file-asks = rw behind-counts (record {
+    inside = omega (arith, given .used-ok, a .whole, length-drop 3 ws);
+    few = notes-few;
+    delta-low = a .few-ticks;
+    beats-few = given .beats-ok;
+    ok = given .notes-ok;
+  })
+
+  pub file-is : fileOf (take (length ws - 3) (drop 3 ws)) (word ws 1) (h .delta) (word ws 0) ≡ fileIn h ws
+  file-is = ap (λ (l : List ℕ). fileOf l (word ws 1) (h .delta) (word ws 0)) behind-counts
+
+  -- a file has bytes
+  pub file-some : 0 < length (fileIn h ws)
+  file-some = omega (arith, file-length file-asks, ap length file-is)
+
+-- ---- the number, the count and the output
+
+abbrev pub Wrote : List ℕ → ℕ → List ℕ → ℕ → ℕ → List ℕ → Type 0
+Wrote s i out number count after = (number ≡ writeNumber s i (length out)) × (count ≡ writeCount s i (length out)) × (after ≡ writeOutput s i out)
+
+module _ (s : List ℕ) (i : ℕ) (out : List ℕ) where
+  wrote-refused : (q : ℕ) → q ≡ writeNumber s i (length out) → 0 < q → Wrote s i out q 0 out
+  unfolding writeCount writeOutput
+  wrote-refused zero e more = absurd (omega arith)
+  wrote-refused (suc q) e more = (e, rw (writeCount, ← e), rw (writeOutput, ← e))
+
+  wrote-done : 0 ≡ writeNumber s i (length out) → {count : ℕ} {after : List ℕ} → count ≡ length (shelfFile s i) → after ≡ splice out 0 (shelfFile s i) → Wrote s i out 0 count after
+  unfolding writeCount writeOutput
+  wrote-done e f g = (e, rw (writeCount, ← e) f, rw (writeOutput, ← e) g)
+
+four : (a b c d : Bool) → firstNo ((1, a) ∷ (2, b) ∷ (4, c) ∷ (15, d) ∷ []) ≡ cond a (cond b (cond c (cond d 0 15) 4) 2) 1
+unfolding firstNo
+four true true true true = refl
+four true true true false = refl
+four true true false d = refl
+four true false c d = refl
+four false b c d = refl
+
+module _ (s : List ℕ) (i room : ℕ) where
+  abbrev g : Header
+  g = headerOf s
+
+  number-is : writeNumber s i room ≡ cond (headerOk g (length s)) (cond (ltb i (g .shelves)) (cond (soundShelf g (shelf g s i)) (cond (fileFits s i room) 0 15) 4) 2) 1
+  unfolding writeNumber writeQuestions
+  number-is = four (headerOk g (length s)) (ltb i (g .shelves)) (soundShelf g (shelf g s i)) (fileFits s i room)
+
+-- ---- refused by question 1 or 2
+
+pub write-refused : (s : List ℕ) (i : ℕ) (out : List ℕ) (q : ℕ) → entryOf (entries.Refused q) ≡ entryAsked s i → Wrote s i out q 0 out
+unfolding entryAsked
+write-refused s i out q e = go (headerOk (headerOf s) (length s)) (ltb i ((headerOf s) .shelves)) refl refl e
+  where
+    both : (n : ℕ) → q ≡ n → writeNumber s i (length out) ≡ n → 0 < n → Wrote s i out q 0 out
+    both n e f more = wrote-refused s i out q (e ∙ sym f) (omega arith)
+
+    go : (a b : Bool) → headerOk (headerOf s) (length s) ≡ a → ltb i ((headerOf s) .shelves) ≡ b
+        → _≡_ {A = ℕ × List ℕ} (q, []) (cond a (cond b (0, wordsOfHeader (headerOf s)) (2, [])) (1, [])) → Wrote s i out q 0 out
+    go true true ea eb e = absurd (let z : _≡_ {A = ℕ} 0 4 = ap (λ (p : ℕ × List ℕ). length (p .1)) e in omega arith)
+    go true false ea eb e = both 2 (ap (λ (p : ℕ × List ℕ). p .0) e) (number-is s i (length out) ∙ rw (ea, eb)) (omega arith)
+    go false b ea eb e = both 1 (ap (λ (p : ℕ × List ℕ). p .0) e) (number-is s i (length out) ∙ rw ea) (omega arith)
+
+-- ---- questions 1 and 2 answered yes
+
+module _ (s : List ℕ) (i : ℕ) (h : Header) (e : Entered s i h) (out : List ℕ) where
+  abbrev file : List ℕ
+  file = fileIn h (shelf h s i)
+
+  file-same : file ≡ shelfFile s i
+  unfolding shelfFile
+  file-same = ap (λ (g : Header). fileIn g (shelf g s i)) (e .same)
+
+  entered-number : writeNumber s i (length out) ≡ cond (soundShelf h (shelf h s i)) (cond (leb (length file) (length out)) 0 15) 4
+  unfolding fileFits
+  entered-number =
+      number-is s i (length out)
+      ∙ rw (e .header, lt-ltb i ((headerOf s) .shelves) (e .below))
+      (ap (λ (g : Header). cond (soundShelf g (shelf g s i)) (cond (leb (length (shelfFile s i)) (length out)) 0 15) 4) (sym (e .same))
+      ∙ ap (λ (f : List ℕ). cond (soundShelf h (shelf h s i)) (cond (leb (length f) (length out)) 0 15) 4) (sym file-same))
+
+  pub write-unsound : {o : Bool} → o ≡ soundShelf h (shelf h s i) → not o ≡ true → Wrote s i out 4 0 out
+  write-unsound {o} f t = wrote-refused s i out 4 (sym (entered-number ∙ rw (sym f ∙ not-true o t))) (omega arith)
+
+  module _ {o : Bool} (f : o ≡ soundShelf h (shelf h s i)) (t : not o ≡ false) (a : PartAsks h (shelf h s i)) {r : ℕ} {after : List ℕ}
+      (counts : r ≡ countOf file out) (leaves : after ≡ outputOf file out) where
+    sound-number : writeNumber s i (length out) ≡ cond (leb (length file) (length out)) 0 15
+    sound-number = entered-number ∙ rw (sym f ∙ not-false o t)
+
+    pub write-full : r ≡ 0 → Wrote s i out 15 0 after
+    write-full z = go (leb (length file) (length out)) refl
+      where
+        go : (b : Bool) → leb (length file) (length out) ≡ b → Wrote s i out 15 0 after
+        go true x = absurd (not-suc-le-zero {n = 0} (omega (arith, z, file-some h (shelf h s i) a, counts ∙ rw x)))
+        go false x = let l : after ≡ out = leaves ∙ rw x in rw l (wrote-refused s i out 15 (sym (sound-number ∙ rw x)) (omega arith))
+
+    pub write-done : (r ≡ 0 → ⊥) → Wrote s i out 0 r after
+    write-done d = go (leb (length file) (length out)) refl
+      where
+        go : (b : Bool) → leb (length file) (length out) ≡ b → Wrote s i out 0 r after
+        go true x = wrote-done s i out (sym (sound-number ∙ rw x)) (counts ∙ rw x (ap length file-same)) (leaves ∙ rw x (ap (splice out 0) file-same))
+        go false x = absurd (d (counts ∙ rw x))

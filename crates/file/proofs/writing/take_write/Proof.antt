@@ -1,0 +1,124 @@
+use borrow.Author.Needs.{needs}
+use Rattle.file.proofs.writing.take_write.Statement.{statement}
+use Rattle.file.proofs.writing.take_write.Tie as tie
+use Rattle.file.proofs.writing.take_write.Reads as reads
+use Rattle.file.proofs.writing.take_write.Lts as lts
+use Rattle.file.proofs.files.put_shelf_file.Reads as put-shelf-file-reads
+use Rattle.session.proofs.header.enter.Reads as enter-reads
+use Rattle.session.proofs.header.shelf_at.Reads as shelf-at-reads
+use Rattle.session.proofs.sound.sound.Reads as sound-reads
+
+-- src/writing.rt:18:9
+enter-requires : tie.Need-enter-requires
+enter-requires c κs = search needs
+
+-- src/writing.rt:20:24
+enum-known-entry : tie.Need-enum-known-entry
+enum-known-entry c = search needs
+
+-- src/writing.rt:21:17
+shelf-at-requires : tie.Need-shelf-at-requires
+shelf-at-requires c κs = search needs
+
+-- src/writing.rt:22:29
+cast-end : tie.Need-cast-end
+cast-end c = search needs
+
+-- src/writing.rt:22:23
+add-end : tie.Need-add-end
+add-end c = search needs
+
+-- src/writing.rt:23:33
+mul-sound : tie.Need-mul-sound
+mul-sound c = search needs
+
+-- src/writing.rt:23:33
+sub-sound : tie.Need-sub-sound
+sub-sound c = search needs
+
+-- src/writing.rt:23:33
+part-sound-start : tie.Need-part-sound-start
+part-sound-start c = search needs
+
+-- src/writing.rt:23:33
+part-sound-end : tie.Need-part-sound-end
+part-sound-end c = search needs
+
+-- src/writing.rt:23:17
+sound-requires : tie.Need-sound-requires
+sound-requires c κs = search needs
+
+-- src/writing.rt:24:17
+returns : tie.Need-returns
+returns c = search needs
+
+-- src/writing.rt:26:49
+mul-put-shelf-file : tie.Need-mul-put-shelf-file
+mul-put-shelf-file c = search needs
+
+-- src/writing.rt:26:49
+sub-put-shelf-file : tie.Need-sub-put-shelf-file
+sub-put-shelf-file c = search needs
+
+-- src/writing.rt:26:49
+part-put-shelf-file-start : tie.Need-part-put-shelf-file-start
+part-put-shelf-file-start c = search needs
+
+-- src/writing.rt:26:49
+part-put-shelf-file-end : tie.Need-part-put-shelf-file-end
+part-put-shelf-file-end c = search needs
+
+-- src/writing.rt:26:17
+put-shelf-file-requires : tie.Need-put-shelf-file-requires
+put-shelf-file-requires c κs = search needs
+
+-- src/writing.rt:28:17
+same-length : tie.Need-same-length
+same-length c = search needs
+
+-- src/writing.rt:28:17
+returns-2 : tie.Need-returns-2
+returns-2 c = search needs
+
+-- src/writing.rt:33:24
+enum-known-entry-2 : tie.Need-enum-known-entry-2
+enum-known-entry-2 c = search needs
+
+-- src/writing.rt:11:1
+same-length-2 : tie.Need-same-length-2
+same-length-2 c = search needs
+
+-- src/writing.rt:11:1
+returns-3 : tie.Need-returns-3
+returns-3 c = search needs
+
+-- src/writing.rt:11:1
+returns-4 : tie.Need-returns-4
+returns-4 c = search needs
+
+pub take-write-spec : {M : Type 1} → statement M
+take-write-spec =
+    tie.close
+    (tie.spec
+    enter-requires
+    enum-known-entry
+    shelf-at-requires
+    cast-end
+    add-end
+    mul-sound
+    sub-sound
+    part-sound-start
+    part-sound-end
+    sound-requires
+    returns
+    mul-put-shelf-file
+    sub-put-shelf-file
+    part-put-shelf-file-start
+    part-put-shelf-file-end
+    put-shelf-file-requires
+    same-length
+    returns-2
+    enum-known-entry-2
+    same-length-2
+    returns-3
+    returns-4)
