@@ -11,3 +11,4 @@ pub mod Playing
 pub mod RoundTrip
 pub mod Recordings
 pub mod Lengths
+pub mod Placing

@@ -16,6 +16,7 @@ use Rattle.model.specs.Histories.{Recording}
 use Rattle.model.specs.Takes.{byLane, lanes}
 use Rattle.model.specs.declared.Note.{Note}
 use Rattle.laws.specs.Booleans.{and-left, and-right}
+use Rattle.laws.specs.Lanes.{all-both}
 use Rattle.laws.specs.Lists.{gather-one, keep-append, keep-gather}
 use Rattle.laws.specs.Notes.{Follow, above, later}
 use Rattle.laws.specs.OneNote.{Valid}
@@ -47,10 +48,6 @@ use Rattle.midi.proofs.Legal.{Moves, InRange, Legal, legal}
 use Rattle.midi.proofs.Playing.{laneNotes, noteAt}
 use Rattle.midi.proofs.Ranges.{Fits, fits-later, fits-ok}
 use Rattle.midi.proofs.Tables.{Shaped, shaped-new, put-shaped, lane-put, lane-other, lane-new}
-
-all-two : {A : Type 0} (P Q S : A → Type 0) (xs : List A) → ((x : A) → P x → Q x → S x) → All P xs → All Q xs → All S xs
-all-two P Q S [] f a b = tt
-all-two P Q S (x ∷ xs) f a b = (f x (a .0) (b .0), all-two P Q S xs f (a .1) (b .1))
 
 -- ---- what holds at each place of a track
 
@@ -125,7 +122,8 @@ add-ended tick l start velocity ns h o i = go (ltb 0 velocity && ltb start tick)
         record {
           fits = all-append (Fits tick) ns (n ∷ []) (i .fits) (record { low = h; long = q; within = omega arith; loud = p; soft = i .soft }, tt);
           order = pairs-append Follow ns (n ∷ []) (i .order) (tt, tt)
-              (all-two (λ m. m .lane ≡ l) (λ m. m .end ≤ start) (λ m. All (Follow m) (n ∷ [])) ns (λ m a b. (later a b, tt)) o (i .free p));
+              (all-imp (λ m. (m .lane ≡ l) × (m .end ≤ start)) (λ m. All (Follow m) (n ∷ [])) ns (λ m k. (later (k .0) (k .1), tt))
+              (all-both (λ m. m .lane ≡ l) (λ m. m .end ≤ start) ns o (i .free p)));
         }
     go false e = rw append-nil (record { fits = i .fits; order = i .order })
 
