@@ -12,3 +12,4 @@ pub mod RoundTrip
 pub mod Recordings
 pub mod Lengths
 pub mod Placing
+pub mod Totals
