@@ -13,3 +13,5 @@ pub mod Recordings
 pub mod Lengths
 pub mod Placing
 pub mod Totals
+pub mod Passes
+pub mod SecondPass
