@@ -15,3 +15,4 @@ pub mod Placing
 pub mod Totals
 pub mod Passes
 pub mod SecondPass
+pub mod Merging
