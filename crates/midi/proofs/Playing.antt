@@ -1,11 +1,11 @@
 -- Events that are in each lane a start and its end by turns play as that lane's notes. Assumes nothing.
-use mathlib.Core.Bool.{Bool, true, false, cond}
+use mathlib.Core.Bool.{cond}
 use mathlib.Core.List.{List, [], _∷_, _++_, append-assoc, append-nil}
 use mathlib.Core.Path.{_≡_, refl, sym, ap, _∙_}
 use Prim.Native.Nat.{ℕ, _≤_, _<_}
 use native.Mathlib.Decide.{ℕ-discrete}
 use native.Mathlib.Omega.{arith}
-use lib.Dec.{ltb, eqb}
+use lib.Dec.{eqb}
 use borrow.Author.Tests.{lt-ltb, eq-eqb, ne-eqb}
 use Rattle.model.specs.Lists.{consIf, keep, gather}
 use Rattle.model.specs.declared.Note.{Note}
@@ -17,7 +17,7 @@ use Rattle.midi.specs.Sounding.{Sounding, startLane, stopLane, ended, en
 use Rattle.midi.specs.Writing.{NoteEvent, noteEvent, startOf, endOf, eventsOf}
 use Rattle.midi.proofs.Loops.{play-start, play-end}
 use Rattle.midi.proofs.ReadBack.{messageOf}
-use Rattle.midi.proofs.Replay.{playThen, playAll}
+use Rattle.midi.proofs.Replay.{playAll}
 use Rattle.midi.proofs.Tables.{Shaped, put-shaped, lane-put, lane-other}
 
 abbrev pub noteAt : ℕ → ℕ → ℕ → ℕ → Note

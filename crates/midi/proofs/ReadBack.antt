@@ -2,22 +2,19 @@
 use mathlib.Core.Bool.{Bool, true, false}
 use mathlib.Core.List.{List, [], _∷_, _++_}
 use mathlib.Core.Path.{_≡_, refl, sym, ap, ap₂, _∙_}
-use Prim.Native.Nat.{ℕ, zero, suc, _+_, _-_, _*_, _/_, _%_, _≤_, _<_}
+use Prim.Native.Nat.{ℕ, zero, suc, _+_, _*_, _/_, _%_, _≤_, _<_}
 use native.Mathlib.Omega.{arith}
-use lib.Dec.{leb, ltb, eqb}
+use lib.Dec.{ltb, eqb}
 use lib.ListN.{length, getD, drop, length-drop}
 use lib.Seq.{drop-drop, drop-append-seam}
-use borrow.Author.Tests.{lt-ltb, le-ltb, le-leb, eq-eqb, ne-eqb, eqb-false, ltb-true}
-use Rattle.midi.specs.Numbers.{Quantity, noQuantity, quantity, quantityFrom, quantityAt, quantityBytes}
+use borrow.Author.Tests.{lt-ltb, le-ltb, le-leb, eq-eqb, ne-eqb, ltb-true}
+use Rattle.midi.specs.Numbers.{quantity, quantityFrom, quantityAt, quantityBytes}
 use Rattle.midi.specs.Events.{
   Place,
   place,
   Message,
   starts,
   ends,
-  passed,
-  Event,
-  illegal,
   event,
   finished,
   channelMessage,

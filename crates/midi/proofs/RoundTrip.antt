@@ -1,15 +1,15 @@
 -- A written file is read as the beats and notes that it was written from. Assumes nothing.
-use mathlib.Core.Bool.{Bool, true, false, _&&_}
+use mathlib.Core.Bool.{true}
 use mathlib.Core.List.{List, [], _∷_, _++_, append-nil}
 use mathlib.Core.Path.{_≡_, refl, ap, ap₂, _∙_}
 use Prim.Native.Nat.{ℕ, zero, suc, _+_, _-_, _*_, _/_, _%_, _≤_, _<_}
 use native.Mathlib.Nat.{mul-le-mul-right, mul-add-div-right, div-eq-of-lt, add-zero}
 use native.Mathlib.Omega.{arith}
-use lib.Dec.{leb, eqb}
+use lib.Dec.{eqb}
 use lib.ListN.{length, take, drop, length-append}
 use lib.Seq.{take-length}
 use borrow.Author.Tests.{le-leb, eq-eqb, eqb-true}
-use Rattle.model.specs.Lists.{keep, gather}
+use Rattle.model.specs.Lists.{gather}
 use Rattle.model.specs.Soundness.{notesOk}
 use Rattle.model.specs.Takes.{byLane}
 use Rattle.model.specs.declared.Note.{Note}
