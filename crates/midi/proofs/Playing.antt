@@ -198,7 +198,9 @@ module _ (m : NoteEvent) (ms : List NoteEvent) (t : Sounding) (out : List Note) 
 pub play-lanes : (ms : List NoteEvent) (t : Sounding) (out : List Note) (todo : ℕ → List Note) → Before ms t todo → Done ms t out todo
 play-lanes [] t out todo s = done-nil t out todo s
 play-lanes (m ∷ ms) t out todo s =
-    go (next (m .lane) (laneAt (t .start) (m .lane)) (laneAt (t .velocity) (m .lane)) m (laneEvents (m .lane) ms) (todo (m .lane)) (s .good (m .lane) (s .low .0)) (rw own at (s .ready (m .lane) (s .low .0))))
+    let l = m .lane in
+    let r = rw own at (s .ready l (s .low .0)) in
+    go (next l (laneAt (t .start) l) (laneAt (t .velocity) l) m (laneEvents l ms) (todo l) (s .good l (s .low .0)) r)
     (λ t out todo s. play-lanes ms t out todo s)
   where
     go : Next (m .lane) (laneAt (t .start) (m .lane)) (laneAt (t .velocity) (m .lane)) m (laneEvents (m .lane) ms) (todo (m .lane))
