@@ -1,5 +1,7 @@
 pub mod Branches
 pub mod Tables
+pub mod NumberSteps
+pub mod EventSteps
 pub mod Legal
 pub mod Loops
 pub mod Groups
