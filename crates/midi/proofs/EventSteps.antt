@@ -44,20 +44,20 @@ module _ (s : List ℕ) (tick b q : ℕ) where
           let e : q + 1 + 1 ≡ q + 2 = omega arith in
           rw (e, lt-ltb q (length s) h, channelAt, lt-ltb (getD s q 0) 128 k, ne-eqb (b / 32) 6 d, lt-ltb (suc q) (length s) (omega arith), lt-ltb (getD s (suc q) 0) 128 j', add-one)
 
-module _ (b k v : ℕ) where
-  pub message-end0 : b / 16 ≡ 9 → v ≡ 0 → ends (b % 16 * 128 + k) ≡ channelMessage b k v
+module _ (b k v : ℕ) (p : Place) where
+  pub message-end0 : b / 16 ≡ 9 → v ≡ 0 → event p (ends (b % 16 * 128 + k)) ≡ event p (channelMessage b k v)
   unfolding channelMessage
   message-end0 e f = rw (eq-eqb (b / 16) 9 e, channelMessage, eq-eqb v 0 f)
 
-  pub message-start : b / 16 ≡ 9 → (v ≡ 0 → ⊥) → starts (b % 16 * 128 + k) v ≡ channelMessage b k v
+  pub message-start : b / 16 ≡ 9 → (v ≡ 0 → ⊥) → event p (starts (b % 16 * 128 + k) v) ≡ event p (channelMessage b k v)
   unfolding channelMessage
   message-start e f = rw (eq-eqb (b / 16) 9 e, channelMessage, ne-eqb v 0 f)
 
-  pub message-end : (b / 16 ≡ 9 → ⊥) → b / 16 ≡ 8 → ends (b % 16 * 128 + k) ≡ channelMessage b k v
+  pub message-end : (b / 16 ≡ 9 → ⊥) → b / 16 ≡ 8 → event p (ends (b % 16 * 128 + k)) ≡ event p (channelMessage b k v)
   unfolding channelMessage
   message-end e f = rw (ne-eqb (b / 16) 9 e, channelMessage, eq-eqb (b / 16) 8 f)
 
-  pub message-other : (b / 16 ≡ 9 → ⊥) → (b / 16 ≡ 8 → ⊥) → passed ≡ channelMessage b k v
+  pub message-other : (b / 16 ≡ 9 → ⊥) → (b / 16 ≡ 8 → ⊥) → event p passed ≡ event p (channelMessage b k v)
   unfolding channelMessage
   message-other e f = rw (ne-eqb (b / 16) 9 e, channelMessage, ne-eqb (b / 16) 8 f)
 
