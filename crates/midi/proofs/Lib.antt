@@ -4,6 +4,7 @@ pub mod NumberSteps
 pub mod EventSteps
 pub mod Legal
 pub mod Loops
+pub mod Files
 pub mod Groups
 pub mod ReadBack
 pub mod Replay
