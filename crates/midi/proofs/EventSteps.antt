@@ -2,11 +2,12 @@
 -- them, q + 1. Assumes nothing.
 use mathlib.Core.Path.{_≡_}
 use mathlib.Core.List.{List}
-use Prim.Native.Nat.{ℕ, suc, _+_, _*_, _/_, _%_, _≤_, _<_}
+use Prim.Native.Nat.{ℕ, suc, _+_, _/_, _%_, _≤_, _<_}
 use native.Mathlib.Numerals.{add-one}
 use native.Mathlib.Omega.{arith}
 use borrow.Author.Tests.{lt-ltb, le-ltb, le-leb, lt-leb, eq-eqb, ne-eqb}
 use lib.ListN.{getD, length}
+use Rattle.midi.specs.Lanes.{laneOf}
 use Rattle.midi.specs.Numbers.{noQuantity, quantity, quantityAt}
 use Rattle.midi.specs.Events.{Place, place, starts, ends, passed, illegal, event, finished, channelMessage, channelAt, sysexAt, metaAt, ownStatus, behindTime, eventAt}
 
@@ -45,15 +46,15 @@ module _ (s : List ℕ) (tick b q : ℕ) where
           rw (e, lt-ltb q (length s) h, channelAt, lt-ltb (getD s q 0) 128 k, ne-eqb (b / 32) 6 d, lt-ltb (suc q) (length s) (omega arith), lt-ltb (getD s (suc q) 0) 128 j', add-one)
 
 module _ (b k v : ℕ) (p : Place) where
-  pub message-end0 : b / 16 ≡ 9 → v ≡ 0 → event p (ends (b % 16 * 128 + k)) ≡ event p (channelMessage b k v)
+  pub message-end0 : b / 16 ≡ 9 → v ≡ 0 → event p (ends (laneOf (b % 16) k)) ≡ event p (channelMessage b k v)
   unfolding channelMessage
   message-end0 e f = rw (eq-eqb (b / 16) 9 e, channelMessage, eq-eqb v 0 f)
 
-  pub message-start : b / 16 ≡ 9 → (v ≡ 0 → ⊥) → event p (starts (b % 16 * 128 + k) v) ≡ event p (channelMessage b k v)
+  pub message-start : b / 16 ≡ 9 → (v ≡ 0 → ⊥) → event p (starts (laneOf (b % 16) k) v) ≡ event p (channelMessage b k v)
   unfolding channelMessage
   message-start e f = rw (eq-eqb (b / 16) 9 e, channelMessage, ne-eqb v 0 f)
 
-  pub message-end : (b / 16 ≡ 9 → ⊥) → b / 16 ≡ 8 → event p (ends (b % 16 * 128 + k)) ≡ event p (channelMessage b k v)
+  pub message-end : (b / 16 ≡ 9 → ⊥) → b / 16 ≡ 8 → event p (ends (laneOf (b % 16) k)) ≡ event p (channelMessage b k v)
   unfolding channelMessage
   message-end e f = rw (ne-eqb (b / 16) 9 e, channelMessage, eq-eqb (b / 16) 8 f)
 
