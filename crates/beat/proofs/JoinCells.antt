@@ -23,7 +23,7 @@ use Rattle.session.proofs.Lasts.{no-cells, last-cells}
 use Rattle.session.proofs.Frames.{length-cells}
 use Rattle.beat.specs.declared.halves.Contents.{Contents}
 use Rattle.beat.specs.Making.{Made}
-use Rattle.beat.specs.Joining.{lowerCells, upperCells, laterCells, Movable, RunAsks, LowerAsks, Lowered, before, BeforeAsks, PutBefore, cellsJoined, JoinedAsks}
+use Rattle.beat.specs.Joined.{lowerCells, upperCells, laterCells, Movable, RunAsks, LowerAsks, Lowered, before, BeforeAsks, PutBefore, cellsJoined, JoinedAsks}
 use Rattle.beat.proofs.Passes.{cells-agree}
 
 -- ---- lower and upper lanes

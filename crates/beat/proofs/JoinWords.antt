@@ -19,7 +19,7 @@ use Rattle.session.specs.Reading.{lastCells}
 use Rattle.beat.specs.declared.halves.Contents.{Contents}
 use Rattle.beat.specs.Making.{Made}
 use Rattle.beat.specs.Halving.{leftHalf, halfOf, Placed, HalfAsks}
-use Rattle.beat.specs.Joining.{Movable, RunAsks, JoinedAsks, JoinAsks, cellsJoined, laterCells}
+use Rattle.beat.specs.Joined.{Movable, RunAsks, JoinedAsks, JoinAsks, cellsJoined, laterCells}
 use Rattle.beat.proofs.HalfWords.{Read, placed}
 
 -- the last cells of what is placed are apart from what is written

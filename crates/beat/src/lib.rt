@@ -1,7 +1,7 @@
 // The calls on shelves, exported to C: open, lay and split; and parts of join.
 pub mod cells;
 pub mod halves;
-pub mod joining;
+pub mod joined;
 pub mod laying;
 pub mod opening;
 pub mod seam;

@@ -2,7 +2,7 @@
 ghost use mathlib.Core.Path.{_≡_};
 ghost use Prim.Native.Nat.{_+_, _*_, _≤_};
 ghost use Rattle.beat.specs.Making.{Made};
-ghost use Rattle.beat.specs.Joining.{LowerAsks, Lowered, BeforeAsks, PutBefore, JoinedAsks, cellsJoined};
+ghost use Rattle.beat.specs.Joined.{LowerAsks, Lowered, BeforeAsks, PutBefore, JoinedAsks, cellsJoined};
 use crate::halves::Contents;
 use model::Cell;
 use session::notes;
