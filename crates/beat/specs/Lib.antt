@@ -5,3 +5,4 @@ pub mod Halving
 pub mod Splitting
 pub mod Joining
 pub mod Seams
+pub mod LaneNotes

@@ -2,6 +2,7 @@
 pub mod cells;
 pub mod halves;
 pub mod joining;
+pub mod lanes;
 pub mod laying;
 pub mod opening;
 pub mod seam;
