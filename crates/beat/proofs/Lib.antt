@@ -10,3 +10,4 @@ pub mod Splits
 pub mod JoinCells
 pub mod JoinSeam
 pub mod JoinWords
+pub mod JoinNotes

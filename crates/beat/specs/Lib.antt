@@ -5,3 +5,4 @@ pub mod Halving
 pub mod Splitting
 pub mod Joined
 pub mod Seams
+pub mod LaneNotes

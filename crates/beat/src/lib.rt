@@ -2,6 +2,7 @@
 pub mod cells;
 pub mod halves;
 pub mod joined;
+pub mod lanes;
 pub mod laying;
 pub mod opening;
 pub mod seam;
