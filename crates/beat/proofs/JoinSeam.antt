@@ -68,7 +68,7 @@ module _ {A : Type 0} (lane : A → ℕ) (l : ℕ) where
 
 -- ---- the last notes
 
-all-last-notes : (P : Note → Type 0) (s : List ℕ) (end k j : ℕ) → j ≤ k → 4 * k ≤ end → All P (lastNotes s end k) → All P (lastNotes s end j)
+pub all-last-notes : (P : Note → Type 0) (s : List ℕ) (end k j : ℕ) → j ≤ k → 4 * k ≤ end → All P (lastNotes s end k) → All P (lastNotes s end j)
 all-last-notes P s end zero j h fits a = let z : j ≡ 0 = omega arith in rw z a
 all-last-notes P s end (suc k) j h fits a = go (leb j k) refl (λ few. all-last-notes P s end k j few (omega arith) tail)
   where
