@@ -2,34 +2,30 @@
 use mathlib.Core.Path.{_≡_, refl, sym, ap, ap₂, _∙_}
 use mathlib.Core.Bool.{Bool, true, false, cond}
 use mathlib.Core.List.{List, [], _∷_, _++_, map, append-assoc}
-use Prim.Native.Nat.{ℕ, suc, _+_, _-_, _*_, _≤_, _<_}
+use Prim.Native.Nat.{ℕ, _+_, _-_, _*_, _≤_}
 use native.Mathlib.Omega.{arith}
 use lib.ListN.{length, length-append}
 use Rattle.words.specs.Apart.{Apart, apart-swap, apart-within}
 use Rattle.words.specs.Parts.{Same, splice-same}
-use Rattle.words.specs.Splice.{splice, length-splice, splice-append, splice-over}
+use Rattle.words.specs.Splice.{splice, splice-append, splice-over}
 use Rattle.model.specs.Binding.{standsAlone}
 use Rattle.model.specs.Lists.{gather}
 use Rattle.model.specs.Takes.{noteWords}
 use Rattle.model.specs.declared.Header.{Header}
 use Rattle.model.specs.declared.Note.{Note}
 use Rattle.model.specs.declared.Cell.{Cell}
-use Rattle.laws.specs.JoinWalk.{run-rest, noteRun, noteRest, cellRun, cellRest}
-use Rattle.laws.specs.Lists.{gather-append, length-map}
+use Rattle.laws.specs.JoinWalk.{run-rest, noteRun, cellRun, cellRest}
+use Rattle.laws.specs.Lists.{gather-append}
 use Rattle.laws.specs.Reading.{length-cells}
-use Rattle.laws.specs.Relations.{All, all-imp}
 use Rattle.laws.specs.Seam.{boundAt, butLast, joinApart, joinOver, joinLane}
 use Rattle.laws.specs.SeamWalk.{lastOr, noteLater}
 use Rattle.session.specs.Reading.{lastNotes, lastCells}
 use Rattle.session.proofs.Frames.{length-notes}
 use Rattle.beat.specs.declared.halves.Contents.{Contents}
-use Rattle.beat.specs.declared.lanes.Front.{Front}
-use Rattle.beat.specs.declared.lanes.Rests.{Rests}
 use Rattle.beat.specs.declared.seam.Seam.{Seam}
 use Rattle.beat.specs.Halving.{Noted, Placed}
-use Rattle.beat.specs.Seams.{Shiftable, laterRun, NoteRunAsks, NoteRunPut, laneNotes, laneBy}
-use Rattle.beat.specs.LaneNotes.{notesFrom, cellsFrom, laneJoined, Joinable, SeamAsks, keptBy, seamEnd, SeamPut, frontBy, backBy, BackFrom, Behind, FirstPut, LeftOf, LanePut}
-use Rattle.beat.proofs.JoinSeam.{all-last-notes}
+use Rattle.beat.specs.Seams.{laneBy}
+use Rattle.beat.specs.LaneNotes.{laneJoined, keptBy, seamEnd, SeamPut, frontBy, backBy}
 use Rattle.beat.proofs.Passes.{notes-agree, cells-agree}
 
 -- ---- what is read while other words are written

@@ -1,11 +1,11 @@
 -- The seam of a lane: its decision, the note over the line in its place, and where the second take's notes begin. Assumes nothing.
 use mathlib.Core.Path.{_≡_, refl, sym, ap, _∙_}
-use mathlib.Core.Bool.{Bool, true, false, cond, not, true≢false}
-use mathlib.Core.List.{List, [], _∷_, _++_, map}
-use Prim.Native.Nat.{ℕ, zero, suc, _+_, _-_, _*_, _≤_, _<_}
+use mathlib.Core.Bool.{Bool, true, false, cond, not}
+use mathlib.Core.List.{List, [], _∷_}
+use Prim.Native.Nat.{ℕ, _+_, _-_, _*_, _≤_}
 use native.Mathlib.Omega.{arith}
-use borrow.Author.Tests.{not-true, not-false, eq-eqb, eqb-true, leb-true, leb-false}
-use lib.Dec.{leb, eqb}
+use borrow.Author.Tests.{not-true, not-false, eqb-true}
+use lib.Dec.{eqb}
 use lib.ListN.{length}
 use Rattle.words.specs.Splice.{splice}
 use Rattle.model.specs.Binding.{standsAlone}
@@ -15,7 +15,7 @@ use Rattle.model.specs.declared.Note.{Note}
 use Rattle.model.specs.declared.Cell.{Cell}
 use Rattle.laws.specs.JoinWalk.{runOf, noteRun, noteRest, cellRun}
 use Rattle.laws.specs.Relations.{All}
-use Rattle.laws.specs.Seam.{boundAt, butFirst, firstOr, startingAt0, fromOn, joinApart, joinOver, joinLane}
+use Rattle.laws.specs.Seam.{boundAt, butFirst, firstOr, startingAt0, joinApart, joinOver, joinLane}
 use Rattle.laws.specs.SeamWalk.{last-all, lastOr}
 use Rattle.session.specs.Reading.{noteAt, cellAt, lastNotes, lastCells}
 use Rattle.session.proofs.Lasts.{no-notes, no-cells, last-notes, last-cells}
@@ -23,7 +23,7 @@ use Rattle.beat.specs.declared.halves.Contents.{Contents}
 use Rattle.beat.specs.declared.seam.Seam.{Seam}
 use Rattle.beat.specs.Seams.{Shiftable, OverAsks, laneNotes, laneBy, overSeam}
 use Rattle.beat.specs.LaneNotes.{Reaching, cellsFrom, notesFrom, laneJoined, apartSeam, SeamAsks, keptBy, seamEnd, SeamPut, backBy, BackFrom}
-use Rattle.beat.proofs.JoinSeam.{run-none, rest-none, run-go, run-stop, rest-go, rest-stop, over-lane}
+use Rattle.beat.proofs.JoinSeam.{run-none, run-go, run-stop, rest-go, nothing, last-cell, over-lane}
 
 cond-yes : {A : Type 0} {b : Bool} (x y : A) → b ≡ true → cond b x y ≡ x
 cond-yes x y e = rw e
@@ -142,47 +142,6 @@ module _ {A : Type 0} (lane : A → ℕ) (l : ℕ) where
       go true ih = (a .0, ih)
       go false ih = tt
 
-none-there : {A : Type 0} (xs : List A) → length xs ≡ 0 → xs ≡ []
-none-there [] e = refl
-none-there (x ∷ xs) e = absurd (omega arith)
-
--- the last cell of the lane in front stands before those that are left
-last-cell : (s : List ℕ) (lane end : ℕ) (d : Cell) (left r : ℕ) → 6 * left ≤ end → left ≡ r + length (cellRun lane (lastCells s end left)) → r < left
-    → lastOr d (cellRun lane (lastCells s end left)) ≡ cellAt s (end - 6 * (r + 1))
-last-cell s lane end d zero r fits count less = absurd (omega arith)
-last-cell s lane end d (suc k) r fits count less =
-    by (eqb (c .lane) lane) refl (λ e f. last-cell s lane end c k r (omega arith) e f)
-  where
-    c : Cell
-    c = cellAt s (end - 6 * suc k)
-
-    cs : List Cell
-    cs = lastCells s end k
-
-    first : lastCells s end (suc k) ≡ c ∷ cs
-    first = let one : suc k - 1 ≡ k = omega arith in last-cells s end (suc k) (omega arith) fits ∙ rw one
-
-    by : (b : Bool) → eqb (c .lane) lane ≡ b → (k ≡ r + length (cellRun lane cs) → r < k → lastOr c (cellRun lane cs) ≡ cellAt s (end - 6 * (r + 1)))
-        → lastOr d (cellRun lane (lastCells s end (suc k))) ≡ cellAt s (end - 6 * (r + 1))
-    by true e ih = rw run (here (leb (suc r) k) refl)
-      where
-        run : cellRun lane (lastCells s end (suc k)) ≡ c ∷ cellRun lane cs
-        run = ap (cellRun lane) first ∙ run-go (λ c. c .lane) lane c cs (eqb-true (c .lane) lane e)
-
-        counted : k ≡ r + length (cellRun lane cs)
-        counted = omega (arith, count, ap length run)
-
-        here : (b : Bool) → leb (suc r) k ≡ b → lastOr c (cellRun lane cs) ≡ cellAt s (end - 6 * (r + 1))
-        here true f = ih counted (leb-true (suc r) k f)
-        here false f =
-            let is : r ≡ k = omega (arith, leb-false (suc r) k f, less) in
-            let none : cellRun lane cs ≡ [] = none-there (cellRun lane cs) (omega (arith, counted)) in
-            let place : end - 6 * (r + 1) ≡ end - 6 * suc k = omega arith in
-            ap (lastOr c) none ∙ ap (cellAt s) (sym place)
-    by false e ih =
-        let run : cellRun lane (lastCells s end (suc k)) ≡ [] = ap (cellRun lane) first ∙ run-stop (λ c. c .lane) lane c cs (λ f. true≢false (sym (eq-eqb (c .lane) lane f) ∙ e)) in
-        absurd (omega (arith, count, ap length run, less))
-
 -- ---- the decision
 
 module _ (h : Header) (k : ℕ) (ms ns : List Note) where
@@ -224,7 +183,7 @@ module _ {s : List ℕ} {h : Header} {beats line lane : ℕ} {first : Contents} 
   pub seam-no-first : cells ≡ first .cells → {r : Seam} → r ≡ apartSeam → laneJoined h beats lane s first second ≡ laneBy r line ms ns
   unfolding laneJoined
   seam-no-first e is =
-      let none : cs ≡ [] = none-there cs (omega (arith, a .cells-count)) in
+      let none : cs ≡ [] = nothing cs (omega (arith, a .cells-count)) in
       apart-by is (ap (λ (xs : List Cell). joinLane h beats ms xs ns ds) none ∙ apart-first h beats ms ns ds)
 
   no-second : ds ≡ [] → {r : Seam} → r ≡ apartSeam → laneJoined h beats lane s first second ≡ laneBy r line ms ns

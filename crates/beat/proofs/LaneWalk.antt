@@ -6,7 +6,6 @@ use native.Mathlib.Nat.{mul-le-mul}
 use native.Mathlib.Omega.{arith}
 use lib.ListN.{length, length-append}
 use Rattle.words.specs.Apart.{Apart, apart-within}
-use Rattle.words.specs.Splice.{splice}
 use Rattle.words.specs.Writes.{Writes, writes-start, writes-run, writes-done, writes-same}
 use Rattle.model.specs.Lists.{gather}
 use Rattle.model.specs.Takes.{noteWords}
@@ -218,13 +217,19 @@ module _ {s₀ : List ℕ} {to : ℕ} {h : Header} {beats : ℕ} {first second :
       pub lane-asks : Joinable s (rests .at) h beats line (rests .first) (rests .second) here
       lane-asks =
           let j = a .joinable in
+          let f = first-still lane w in
+          let g = second-still lane w in
+          let can = Shiftable line in
           record {
             line-is = refl;
             first-placed = first-placed lane w (4 * length here) fits;
             second-placed = second-placed lane w (4 * length here) fits;
-            first-shiftable = subst (All (Shiftable line)) (sym (first-still lane w .notes (rests .first .notes) (omega arith))) (notes-within (w .first-in) (j .first-placed) (Shiftable line) (j .first-shiftable));
-            second-shiftable = subst (All (Shiftable line)) (sym (second-still lane w .notes (rests .second .notes) (omega arith))) (notes-within (w .second-in) (j .second-placed) (Shiftable line) (j .second-shiftable));
-            second-reaching = subst (All (Reaching line)) (sym (second-still lane w .cells (rests .second .cells) (omega arith))) (cells-within (w .second-in) (j .second-placed) (Reaching line) (j .second-reaching));
+            first-shiftable =
+                subst (All can) (sym (f .notes (rests .first .notes) (omega arith))) (notes-within (w .first-in) (j .first-placed) can (j .first-shiftable));
+            second-shiftable =
+                subst (All can) (sym (g .notes (rests .second .notes) (omega arith))) (notes-within (w .second-in) (j .second-placed) can (j .second-shiftable));
+            second-reaching =
+                subst (All (Reaching line)) (sym (g .cells (rests .second .cells) (omega arith))) (cells-within (w .second-in) (j .second-placed) (Reaching line) (j .second-reaching));
           }
 
       pub walk-lane : {t : List ℕ} {r : Rests} → LanePut s (rests .at) h beats lane (rests .first) (rests .second) t r → Walked s₀ t to h beats first second r (suc lane)

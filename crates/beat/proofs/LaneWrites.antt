@@ -9,20 +9,17 @@ use Rattle.model.specs.Lists.{gather}
 use Rattle.model.specs.Takes.{noteWords}
 use Rattle.model.specs.declared.Header.{Header}
 use Rattle.model.specs.declared.Note.{Note}
-use Rattle.model.specs.declared.Cell.{Cell}
 use Rattle.laws.specs.JoinWalk.{noteRun, noteRest, cellRun, cellRest}
-use Rattle.laws.specs.Lists.{gather-append, length-map}
-use Rattle.laws.specs.Relations.{All, all-imp}
+use Rattle.laws.specs.Lists.{gather-append}
+use Rattle.laws.specs.Relations.{all-imp}
 use Rattle.laws.specs.SeamWalk.{noteLater}
-use Rattle.session.specs.Reading.{lastNotes, lastCells}
+use Rattle.session.specs.Reading.{lastCells}
 use Rattle.session.proofs.Frames.{length-notes}
 use Rattle.beat.specs.declared.halves.Contents.{Contents}
 use Rattle.beat.specs.declared.lanes.Front.{Front}
-use Rattle.beat.specs.declared.lanes.Rests.{Rests}
 use Rattle.beat.specs.declared.seam.Seam.{Seam}
-use Rattle.beat.specs.Halving.{Noted, Placed}
 use Rattle.beat.specs.Seams.{Shiftable, laterRun, NoteRunAsks, NoteRunPut, laneNotes, laneBy}
-use Rattle.beat.specs.LaneNotes.{Reaching, notesFrom, cellsFrom, laneJoined, Joinable, SeamAsks, seamEnd, SeamPut, frontBy, backBy, BackFrom, FirstPut, LanePut}
+use Rattle.beat.specs.LaneNotes.{notesFrom, cellsFrom, laneJoined, Joinable, SeamAsks, seamEnd, SeamPut, frontBy, backBy, BackFrom, FirstPut, LanePut}
 use Rattle.beat.proofs.JoinSeam.{all-last-notes}
 use Rattle.beat.proofs.LaneParts.{Still, still, still-lane, lane-parts, front-length, lane-long, front-put, later-none, cells-run, notes-apart}
 

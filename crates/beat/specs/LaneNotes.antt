@@ -1,6 +1,6 @@
 -- The notes of a join, written lane by lane: what each function is asked, and what it leaves. Assumes nothing.
 use mathlib.Core.Path.{_≡_}
-use mathlib.Core.Bool.{cond, true, false}
+use mathlib.Core.Bool.{cond, false}
 use mathlib.Core.List.{List, [], _∷_, _++_}
 use Prim.Native.Nat.{ℕ, _+_, _-_, _*_, _≤_}
 use lib.ListN.{length}
