@@ -75,7 +75,7 @@ merge-step c cs ds = go ds
 
 -- ---- the last cells
 
-all-last : (P : Cell → Type 0) (s : List ℕ) (end k j : ℕ) → j ≤ k → 6 * k ≤ end → All P (lastCells s end k) → All P (lastCells s end j)
+pub all-last : (P : Cell → Type 0) (s : List ℕ) (end k j : ℕ) → j ≤ k → 6 * k ≤ end → All P (lastCells s end k) → All P (lastCells s end j)
 all-last P s end zero j h fits a = let z : j ≡ 0 = omega arith in rw z a
 all-last P s end (suc k) j h fits a = go (leb j k) refl (λ few. all-last P s end k j few (omega arith) tail)
   where

@@ -1,17 +1,15 @@
 -- The join of two sound shelves' takes: its notes are those that are written lane by lane. Assumes nothing.
-use mathlib.Core.Path.{_≡_, refl, sym, ap, _∙_}
+use mathlib.Core.Path.{_≡_, refl, sym, _∙_}
 use mathlib.Core.List.{List}
 use Prim.Native.Nat.{ℕ, _+_, _*_, _≤_}
 use native.Mathlib.Nat.{mul-le-mul}
 use native.Mathlib.Omega.{arith}
 use lib.ListN.{length}
-use Rattle.model.specs.Limits.{maxBeats, maxDelta}
+use Rattle.model.specs.Limits.{maxBeats}
 use Rattle.model.specs.Questions.{takeAt}
 use Rattle.model.specs.Session.{shelf, shelfAt}
 use Rattle.model.specs.Takes.{Take, joinTakes, notesOf}
 use Rattle.model.specs.declared.Header.{Header}
-use Rattle.model.specs.declared.Note.{Note}
-use Rattle.model.specs.declared.Cell.{Cell}
 use Rattle.model.proofs.Headers.{InRange, in-range}
 use Rattle.laws.specs.JoinLanes.{join-notes, joinLanes}
 use Rattle.laws.specs.JoinWalk.{Four, join-four}

@@ -11,3 +11,7 @@ pub mod JoinCells
 pub mod JoinSeam
 pub mod JoinWords
 pub mod JoinNotes
+pub mod LaneSeam
+pub mod LaneParts
+pub mod LaneWrites
+pub mod LaneWalk

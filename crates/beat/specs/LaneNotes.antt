@@ -1,6 +1,6 @@
 -- The notes of a join, written lane by lane: what each function is asked, and what it leaves. Assumes nothing.
 use mathlib.Core.Path.{_≡_}
-use mathlib.Core.Bool.{cond, true, false}
+use mathlib.Core.Bool.{cond, false}
 use mathlib.Core.List.{List, [], _∷_, _++_}
 use Prim.Native.Nat.{ℕ, _+_, _-_, _*_, _≤_}
 use lib.ListN.{length}
@@ -117,10 +117,10 @@ pub record LeftOf (s : List ℕ) (lane : ℕ) (from r : Contents) : Type 0 where
   pub left : Behind s lane from (r .notes) (r .cells)
 
 -- The joined notes of the lane are written.
-pub record LanePut (s : List ℕ) (h : Header) (beats lane : ℕ) (from : Rests) (t : List ℕ) (r : Rests) : Type 0 where
-  pub noted : Noted s (from .at) (laneJoined h beats lane s (from .first) (from .second)) t (r .at)
-  pub first-left : LeftOf s lane (from .first) (r .first)
-  pub second-left : LeftOf s lane (from .second) (r .second)
+pub record LanePut (s : List ℕ) (to : ℕ) (h : Header) (beats lane : ℕ) (first second : Contents) (t : List ℕ) (r : Rests) : Type 0 where
+  pub noted : Noted s to (laneJoined h beats lane s first second) t (r .at)
+  pub first-left : LeftOf s lane first (r .first)
+  pub second-left : LeftOf s lane second (r .second)
 
 -- ---- all lanes
 
