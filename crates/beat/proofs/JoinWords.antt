@@ -28,7 +28,7 @@ cells-apart {from = from} p =
     apart-swap (apart-within (from .end - 6 * from .cells) (6 * from .cells) (apart-swap (p .apart)) (omega (arith, p .cells-in)) (omega (arith, p .cells-in)))
 
 module _ {s : List ℕ} {h : Header} {i j k : ℕ} (a : JoinAsks s h i j k) where
-  range : InRange h (length s)
+  pub range : InRange h (length s)
   range = in-range (a .header)
 
   abbrev t : Take
@@ -37,10 +37,10 @@ module _ {s : List ℕ} {h : Header} {i j k : ℕ} (a : JoinAsks s h i j k) wher
   abbrev u : Take
   u = takeAt h s j
 
-  solid-first : Solid (h .delta) t
+  pub solid-first : Solid (h .delta) t
   solid-first = sound-solid h (range .some-ticks) (shelf h s i) (a .first-sound)
 
-  solid-second : Solid (h .delta) u
+  pub solid-second : Solid (h .delta) u
   solid-second = sound-solid h (range .some-ticks) (shelf h s j) (a .second-sound)
 
   -- each is read as for its half before beat 0

@@ -5,6 +5,7 @@ pub mod Lays
 pub mod Calls
 pub mod Parts
 pub mod Passes
+pub mod TakeWords
 pub mod HalfWords
 pub mod Splits
 pub mod JoinCells
@@ -15,3 +16,7 @@ pub mod LaneSeam
 pub mod LaneParts
 pub mod LaneWrites
 pub mod LaneWalk
+pub mod JoinCounts
+pub mod JoinFits
+pub mod Joins
+pub mod JoinedWords

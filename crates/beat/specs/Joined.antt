@@ -9,10 +9,10 @@ use Rattle.words.specs.Apart.{Apart}
 use Rattle.words.specs.Splice.{splice}
 use Rattle.model.specs.Lists.{gather}
 use Rattle.model.specs.Limits.{maxBeats}
-use Rattle.model.specs.Questions.{headerOk, takeAt}
+use Rattle.model.specs.Questions.{fits, headerOk, takeAt}
 use Rattle.model.specs.Session.{shelf}
 use Rattle.model.specs.Soundness.{soundShelf}
-use Rattle.model.specs.Takes.{cellWords}
+use Rattle.model.specs.Takes.{cellWords, joinTakes}
 use Rattle.model.specs.declared.Cell.{Cell}
 use Rattle.model.specs.declared.Header.{Header}
 use Rattle.laws.specs.Lanes.{mergeLane}
@@ -97,3 +97,8 @@ pub record JoinAsks (s : List ℕ) (h : Header) (first second to : ℕ) : Type 0
   pub first-sound : soundShelf h (shelf h s first) ≡ true
   pub second-sound : soundShelf h (shelf h s second) ≡ true
   pub beats-few : (takeAt h s first) .beats + (takeAt h s second) .beats ≤ maxBeats
+
+-- The join of their takes fits the other shelf.
+pub record PutAsks (s : List ℕ) (h : Header) (first second to : ℕ) : Type 0 where
+  pub asks : JoinAsks s h first second to
+  pub fit : fits h (joinTakes (h .delta) (takeAt h s first) (takeAt h s second)) ≡ true

@@ -6,3 +6,5 @@ pub mod Splitting
 pub mod Joined
 pub mod Seams
 pub mod LaneNotes
+pub mod Counting
+pub mod Joining

@@ -1,11 +1,22 @@
 // Two takes joined, written into another shelf of the session straight from their own notes and cells.
 ghost use mathlib.Core.Path.{_≡_};
-ghost use Prim.Native.Nat.{_+_, _*_, _≤_};
+ghost use mathlib.Core.Bool.{true};
+ghost use Prim.Native.Nat.{_+_, _*_, _≤_, _<_};
+ghost use lib.ListN.{length};
 ghost use Rattle.beat.specs.Making.{Made};
-ghost use Rattle.beat.specs.Joined.{LowerAsks, Lowered, BeforeAsks, PutBefore, JoinedAsks, cellsJoined};
+ghost use Rattle.words.specs.Splice.{splice};
+ghost use Rattle.model.specs.Questions.{headerOk, takeAt};
+ghost use Rattle.model.specs.Session.{shelfAt};
+ghost use Rattle.model.specs.Takes.{joinTakes, wordsOf};
+ghost use Rattle.beat.specs.Joined.{LowerAsks, Lowered, BeforeAsks, PutBefore, JoinedAsks, cellsJoined, PutAsks};
+use crate::halves;
 use crate::halves::Contents;
+use crate::lanes;
 use model::Cell;
+use model::Header;
+use session::header;
 use session::notes;
+use session::shelf;
 
 // ---- cells
 
@@ -71,4 +82,32 @@ pub fn put_joined_cells(
     }
     let over = put_lower(s, at, 2048, beats, second.end, rest);
     at + 6 * (rest - over)
+}
+
+// ---- the join
+
+// The beats of the take in a shelf.
+pub fn beats_at(s: &[u32], h: Header, take: u32) -> u32
+    requires { ⌜ (headerOk h (length (now s)) ≡ true) × (take < h .shelves) ⌝ }
+    ensures { λ r. ⌜ r ≡ (takeAt h (now (s .entry)) take) .beats ⌝ }
+{
+    let at = header::shelf_at(h, take);
+    s[at]
+}
+
+// The join of the takes in two shelves, written into another: notes, then cells behind them, then the counts and zeros.
+pub fn put_joined(s: &mut [u32], h: Header, first: u32, second: u32, result: u32)
+    requires { ⌜ PutAsks (now s) h first second result ⌝ }
+    ensures { λ _. ⌜ now (s .exit) ≡ splice (now (s .entry)) (shelfAt h result) (wordsOf h (joinTakes (h .delta) (takeAt h (now (s .entry)) first) (takeAt h (now (s .entry)) second))) ⌝ }
+{
+    let beats = beats_at(s, h, first);
+    let total = beats + beats_at(s, h, second);
+    let a = halves::contents_at(s, header::shelf_at(h, first));
+    let b = halves::contents_at(s, header::shelf_at(h, second));
+    let at = header::shelf_at(h, result);
+    let middle = lanes::put_joined_notes(s, at + 3, h, beats, a, b);
+    let end = put_joined_cells(s, middle, beats, a, b);
+    let notes = (middle - (at + 3)) / 4;
+    let cells = (end - middle) / 6;
+    shelf::put_frame(s, at, h.words as usize, total, notes as u32, cells as u32);
 }
