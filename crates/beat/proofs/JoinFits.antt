@@ -2,7 +2,7 @@
 use mathlib.Core.Path.{_≡_, refl, sym, ap, _∙_}
 use mathlib.Core.Bool.{Bool, true, false}
 use mathlib.Core.List.{List}
-use Prim.Native.Nat.{ℕ, _+_, _-_, _*_, _≤_, _<_, min}
+use Prim.Native.Nat.{ℕ, _+_, _*_, _≤_, min}
 use native.Mathlib.Omega.{arith}
 use borrow.Author.Tests.{le-leb, leb-true, leb-false}
 use lib.Dec.{leb}
@@ -15,13 +15,13 @@ use Rattle.model.specs.declared.Cell.{Cell}
 use Rattle.model.specs.declared.Header.{Header}
 use Rattle.laws.specs.JoinCount.{join-length, join-room, lone-few, pairs-few, seams}
 use Rattle.laws.specs.Joining.{length-join-cells}
-use Rattle.laws.specs.JoinWalk.{Four, join-four}
+use Rattle.laws.specs.JoinWalk.{join-four}
 use Rattle.laws.specs.Reading.{length-cells, length-read}
 use Rattle.laws.specs.Seam.{lone}
 use Rattle.session.specs.Reading.{lastNotes, lastCells}
 use Rattle.beat.specs.declared.counting.SeamCount.{SeamCount}
 use Rattle.beat.specs.declared.halves.Contents.{Contents}
-use Rattle.beat.specs.Counting.{countOf, countedWords, CountsAsks, FitAsks, SeamsAsks}
+use Rattle.beat.specs.Counting.{countOf, countedWords, CountsAsks, SeamsAsks}
 use Rattle.beat.specs.Joined.{JoinAsks}
 use Rattle.beat.proofs.HalfWords.{Read, placed}
 use Rattle.beat.proofs.JoinWords.{first-read, second-read, range, solid-first, solid-second}

@@ -1,7 +1,7 @@
 -- The join of two sound shelves' takes: its cells are those that the walk over both shelves writes. Assumes nothing.
-use mathlib.Core.Path.{_≡_, refl, sym, ap, _∙_}
+use mathlib.Core.Path.{_≡_, refl, sym}
 use mathlib.Core.List.{List}
-use Prim.Native.Nat.{ℕ, _+_, _-_, _*_, _≤_, _<_}
+use Prim.Native.Nat.{ℕ, _+_, _-_, _*_, _≤_}
 use native.Mathlib.Omega.{arith}
 use lib.ListN.{length}
 use Rattle.words.specs.Apart.{Apart, apart-swap, apart-within}
@@ -9,7 +9,6 @@ use Rattle.model.specs.Questions.{takeAt}
 use Rattle.model.specs.Session.{shelf, shelfAt}
 use Rattle.model.specs.Takes.{Take, joinTakes, splitLeft}
 use Rattle.model.specs.declared.Header.{Header}
-use Rattle.model.specs.declared.Cell.{Cell}
 use Rattle.model.proofs.Headers.{InRange, in-range}
 use Rattle.laws.specs.Joining.{join-cells}
 use Rattle.laws.specs.Relations.{All, all-imp}
@@ -19,7 +18,7 @@ use Rattle.session.specs.Reading.{lastCells}
 use Rattle.beat.specs.declared.halves.Contents.{Contents}
 use Rattle.beat.specs.Making.{Made}
 use Rattle.beat.specs.Halving.{leftHalf, halfOf, Placed, HalfAsks}
-use Rattle.beat.specs.Joined.{Movable, RunAsks, JoinedAsks, JoinAsks, cellsJoined, laterCells}
+use Rattle.beat.specs.Joined.{Movable, JoinedAsks, JoinAsks, cellsJoined, laterCells}
 use Rattle.beat.proofs.HalfWords.{Read, placed}
 
 -- the last cells of what is placed are apart from what is written

@@ -17,7 +17,7 @@ use Rattle.model.specs.Answers.{answerOf, headerAsked}
 use Rattle.model.specs.Questions.{headerOk, shelvesOk, writesDiffer, readsSound, beatsOk, fits, resultsFit, results, putAll, questions, firstNo, number, written, after, takeAt}
 use Rattle.model.specs.declared.Header.{Header}
 use Rattle.model.specs.declared.HeaderAnswer.the-variants as answers
-use Rattle.model.proofs.Headers.{InRange, in-range, refused-means, valid-means}
+use Rattle.model.proofs.Headers.{refused-means, valid-means}
 use Rattle.laws.specs.Booleans.{and-left, and-right}
 use Rattle.laws.specs.Sound.{sound-beats}
 use Rattle.beat.specs.Counting.{FitAsks}

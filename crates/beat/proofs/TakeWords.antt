@@ -1,5 +1,5 @@
 -- A take that fits, written into a shelf: its notes, its cells behind them, then the counts and zeros. Assumes nothing.
-use mathlib.Core.Path.{_≡_, refl, sym, ap, _∙_}
+use mathlib.Core.Path.{_≡_, ap, _∙_}
 use mathlib.Core.Bool.{true}
 use mathlib.Core.List.{List}
 use Prim.Native.Nat.{ℕ, _+_, _-_, _*_, _/_, _≤_}
@@ -10,7 +10,7 @@ use Rattle.words.specs.Parts.{Same, splice-same}
 use Rattle.words.specs.Splice.{splice, length-splice}
 use Rattle.model.specs.Lists.{gather}
 use Rattle.model.specs.Limits.{maxWords}
-use Rattle.model.specs.Takes.{Take, noteWords, cellWords, wordsUsed, notesOf, wordsOf, shelfWords}
+use Rattle.model.specs.Takes.{Take, noteWords, cellWords, wordsUsed, notesOf, wordsOf}
 use Rattle.model.specs.Questions.{fits}
 use Rattle.model.specs.declared.Header.{Header}
 use Rattle.model.specs.declared.Note.{Note}

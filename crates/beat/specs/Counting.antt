@@ -1,7 +1,7 @@
 -- Question 8 of a join: the pairs of cells over the line between the takes, counted lane by lane, and the words of the result.
 -- Assumes nothing.
 use mathlib.Core.Path.{_≡_}
-use mathlib.Core.List.{List, [], _∷_}
+use mathlib.Core.List.{List, []}
 use Prim.Native.Nat.{ℕ, _+_, _*_, _≤_}
 use lib.ListN.{length}
 use Rattle.model.specs.Limits.{maxWords}

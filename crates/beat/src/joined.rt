@@ -1,7 +1,7 @@
 // Two takes joined, written into another shelf of the session straight from their own notes and cells.
 ghost use mathlib.Core.Path.{_≡_};
 ghost use mathlib.Core.Bool.{true};
-ghost use Prim.Native.Nat.{_+_, _*_, _≤_, _<_};
+ghost use Prim.Native.Nat.{_+_, _*_, _<_};
 ghost use lib.ListN.{length};
 ghost use Rattle.beat.specs.Making.{Made};
 ghost use Rattle.words.specs.Splice.{splice};

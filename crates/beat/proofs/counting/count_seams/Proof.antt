@@ -5,12 +5,6 @@ use Rattle.beat.proofs.JoinCounts.{Counting, counting-start, left-asks,
 use borrow.Author.Needs.{needs}
 use Rattle.beat.proofs.counting.count_seams.Statement.{statement}
 use Rattle.beat.proofs.counting.count_seams.Tie as tie
-use Rattle.beat.proofs.counting.count_seams.Reads as reads
-use Rattle.beat.proofs.counting.count_seams.Lts as lts
-use Rattle.beat.proofs.counting.cell_run.Reads as cell-run-reads
-use Rattle.beat.proofs.counting.lane_count.Reads as lane-count-reads
-use Rattle.beat.proofs.seam.cell_lane.Reads as cell-lane-reads
-use Rattle.beat.proofs.seam.lesser.Reads as lesser-reads
 
 abbrev Inv-loop : tie.InvT-loop
 Inv-loop s h beats first second left₀ over₀ pairs₀ alone₀ left over pairs alone = Counting s h beats first second left over pairs alone

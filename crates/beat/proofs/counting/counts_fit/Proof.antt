@@ -3,8 +3,6 @@ use Rattle.beat.specs.Counting.{countedWords}
 use borrow.Author.Needs.{needs}
 use Rattle.beat.proofs.counting.counts_fit.Statement.{statement}
 use Rattle.beat.proofs.counting.counts_fit.Tie as tie
-use Rattle.beat.proofs.counting.counts_fit.Reads as reads
-use Rattle.beat.proofs.counting.counts_fit.Lts as lts
 
 add-notes : tie.Need-add-notes
 add-notes c = search needs

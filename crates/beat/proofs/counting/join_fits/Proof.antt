@@ -7,13 +7,6 @@ use Rattle.beat.proofs.Splits.{inside-session, beats-is}
 use borrow.Author.Needs.{needs}
 use Rattle.beat.proofs.counting.join_fits.Statement.{statement}
 use Rattle.beat.proofs.counting.join_fits.Tie as tie
-use Rattle.beat.proofs.counting.join_fits.Reads as reads
-use Rattle.beat.proofs.counting.join_fits.Lts as lts
-use Rattle.beat.proofs.counting.count_seams.Reads as count-seams-reads
-use Rattle.beat.proofs.counting.counts_fit.Reads as counts-fit-reads
-use Rattle.beat.proofs.counting.fewer_cells.Reads as fewer-cells-reads
-use Rattle.beat.proofs.halves.contents_at.Reads as contents-at-reads
-use Rattle.session.proofs.header.shelf_at.Reads as shelf-at-reads
 
 shelf-at-requires : tie.Need-shelf-at-requires
 shelf-at-requires c κs = place-asks (first-read (c .before .pre .asks)) _ ((c .before .pre .asks) .first-below)

@@ -4,11 +4,6 @@ use Rattle.beat.proofs.JoinCounts.{no-first, no-second, lane-pair, last
 use borrow.Author.Needs.{needs}
 use Rattle.beat.proofs.counting.lane_count.Statement.{statement}
 use Rattle.beat.proofs.counting.lane_count.Tie as tie
-use Rattle.beat.proofs.counting.lane_count.Reads as reads
-use Rattle.beat.proofs.counting.lane_count.Lts as lts
-use Rattle.beat.proofs.counting.no_pair.Reads as no-pair-reads
-use Rattle.beat.proofs.counting.pair_count.Reads as pair-count-reads
-use Rattle.session.proofs.notes.cell_at.Reads as cell-at-reads
 
 no-pair-requires : tie.Need-no-pair-requires
 no-pair-requires c κs = search needs

@@ -4,12 +4,6 @@ use Rattle.beat.proofs.JoinCounts.{not-bound, one-pair, two-few}
 use borrow.Author.Needs.{needs}
 use Rattle.beat.proofs.counting.pair_count.Statement.{statement}
 use Rattle.beat.proofs.counting.pair_count.Tie as tie
-use Rattle.beat.proofs.counting.pair_count.Reads as reads
-use Rattle.beat.proofs.counting.pair_count.Lts as lts
-use Rattle.beat.proofs.counting.no_pair.Reads as no-pair-reads
-use Rattle.beat.proofs.counting.one_if.Reads as one-if-reads
-use Rattle.beat.proofs.seam.bound_over.Reads as bound-over-reads
-use Rattle.session.proofs.rules.stands_alone.Reads as stands-alone-reads
 
 bound-over-requires : tie.Need-bound-over-requires
 bound-over-requires c κs = search needs

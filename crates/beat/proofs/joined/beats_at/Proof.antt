@@ -2,12 +2,8 @@
 use native.Mathlib.Omega.{arith}
 use Rattle.model.proofs.Headers.{in-range}
 use Rattle.beat.proofs.Splits.{place-asks, inside-session, beats-is}
-use borrow.Author.Needs.{needs}
 use Rattle.beat.proofs.joined.beats_at.Statement.{statement}
 use Rattle.beat.proofs.joined.beats_at.Tie as tie
-use Rattle.beat.proofs.joined.beats_at.Reads as reads
-use Rattle.beat.proofs.joined.beats_at.Lts as lts
-use Rattle.session.proofs.header.shelf_at.Reads as shelf-at-reads
 
 shelf-at-requires : tie.Need-shelf-at-requires
 shelf-at-requires c κs = place-asks (in-range (c .before .pre .0)) (c .before .pre .1)

@@ -6,14 +6,6 @@ use Rattle.beat.proofs.JoinedWords.{beats-room, notes-place, notes-asks
 use borrow.Author.Needs.{needs}
 use Rattle.beat.proofs.joined.put_joined.Statement.{statement}
 use Rattle.beat.proofs.joined.put_joined.Tie as tie
-use Rattle.beat.proofs.joined.put_joined.Reads as reads
-use Rattle.beat.proofs.joined.put_joined.Lts as lts
-use Rattle.beat.proofs.halves.contents_at.Reads as contents-at-reads
-use Rattle.beat.proofs.joined.beats_at.Reads as beats-at-reads
-use Rattle.beat.proofs.joined.put_joined_cells.Reads as put-joined-cells-reads
-use Rattle.beat.proofs.lanes.put_joined_notes.Reads as put-joined-notes-reads
-use Rattle.session.proofs.header.shelf_at.Reads as shelf-at-reads
-use Rattle.session.proofs.shelf.put_frame.Reads as put-frame-reads
 
 beats-at-requires : tie.Need-beats-at-requires
 beats-at-requires c κs = ((c .before .before .pre .asks) .header, (c .before .before .pre .asks) .first-below)

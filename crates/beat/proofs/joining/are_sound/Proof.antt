@@ -1,11 +1,7 @@
 -- `beat::joining::are_sound` meets its contract. Assumes nothing.
 use Rattle.beat.proofs.Joins.{first-not-sound, one-shelf, second-sound}
-use borrow.Author.Needs.{needs}
 use Rattle.beat.proofs.joining.are_sound.Statement.{statement}
 use Rattle.beat.proofs.joining.are_sound.Tie as tie
-use Rattle.beat.proofs.joining.are_sound.Reads as reads
-use Rattle.beat.proofs.joining.are_sound.Lts as lts
-use Rattle.beat.proofs.joining.is_sound.Reads as is-sound-reads
 
 is-sound-requires : tie.Need-is-sound-requires
 is-sound-requires c κs = (c .before .pre .0, c .before .pre .1)

@@ -5,13 +5,6 @@ use Rattle.beat.proofs.Joins.{no-shelf, below-all, same-shelf, not-soun
 use borrow.Author.Needs.{needs}
 use Rattle.beat.proofs.joining.asked.Statement.{statement}
 use Rattle.beat.proofs.joining.asked.Tie as tie
-use Rattle.beat.proofs.joining.asked.Reads as reads
-use Rattle.beat.proofs.joining.asked.Lts as lts
-use Rattle.beat.proofs.counting.join_fits.Reads as join-fits-reads
-use Rattle.beat.proofs.joining.are_sound.Reads as are-sound-reads
-use Rattle.beat.proofs.joined.beats_at.Reads as beats-at-reads
-use Rattle.beat.proofs.joining.differs.Reads as differs-reads
-use Rattle.beat.proofs.splitting.shelves_ok.Reads as shelves-ok-reads
 
 shelves-ok-requires : tie.Need-shelves-ok-requires
 shelves-ok-requires c κs = search needs

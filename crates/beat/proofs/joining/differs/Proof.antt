@@ -1,10 +1,7 @@
 -- `beat::joining::differs` meets its contract. Assumes nothing.
 use Rattle.beat.proofs.Joins.{result-is-first, result-and-second}
-use borrow.Author.Needs.{needs}
 use Rattle.beat.proofs.joining.differs.Statement.{statement}
 use Rattle.beat.proofs.joining.differs.Tie as tie
-use Rattle.beat.proofs.joining.differs.Reads as reads
-use Rattle.beat.proofs.joining.differs.Lts as lts
 
 returns : tie.Need-returns
 returns c = result-is-first _ _ _ (c .if1 .taken)

@@ -5,10 +5,6 @@ use Rattle.beat.proofs.Splits.{place-asks, inside-session, sound-asks, 
 use borrow.Author.Needs.{needs}
 use Rattle.beat.proofs.joining.is_sound.Statement.{statement}
 use Rattle.beat.proofs.joining.is_sound.Tie as tie
-use Rattle.beat.proofs.joining.is_sound.Reads as reads
-use Rattle.beat.proofs.joining.is_sound.Lts as lts
-use Rattle.session.proofs.header.shelf_at.Reads as shelf-at-reads
-use Rattle.session.proofs.sound.sound.Reads as sound-reads
 
 shelf-at-requires : tie.Need-shelf-at-requires
 shelf-at-requires c κs = place-asks (in-range (c .before .pre .0)) (c .before .pre .1)

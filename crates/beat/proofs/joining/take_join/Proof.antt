@@ -6,11 +6,6 @@ use Rattle.beat.proofs.Splits.{header-ok}
 use borrow.Author.Needs.{needs}
 use Rattle.beat.proofs.joining.take_join.Statement.{statement}
 use Rattle.beat.proofs.joining.take_join.Tie as tie
-use Rattle.beat.proofs.joining.take_join.Reads as reads
-use Rattle.beat.proofs.joining.take_join.Lts as lts
-use Rattle.beat.proofs.joined.put_joined.Reads as put-joined-reads
-use Rattle.beat.proofs.joining.asked.Reads as asked-reads
-use Rattle.session.proofs.header.read.Reads as read-reads
 
 read-requires : tie.Need-read-requires
 read-requires c κs = search needs
