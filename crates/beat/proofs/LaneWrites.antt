@@ -19,7 +19,7 @@ use Rattle.beat.specs.declared.halves.Contents.{Contents}
 use Rattle.beat.specs.declared.lanes.Front.{Front}
 use Rattle.beat.specs.declared.seam.Seam.{Seam}
 use Rattle.beat.specs.Seams.{Shiftable, laterRun, NoteRunAsks, NoteRunPut, laneNotes, laneBy}
-use Rattle.beat.specs.LaneNotes.{notesFrom, cellsFrom, laneJoined, Joinable, SeamAsks, seamEnd, SeamPut, frontBy, backBy, BackFrom, FirstPut, LanePut}
+use Rattle.beat.specs.LaneNotes.{notesFrom, cellsFrom, laneJoined, Joinable, SeamAsks, seamEnd, SeamPut, frontBy, backBy, BackFrom, FirstPut, leftOf, LanePut}
 use Rattle.beat.proofs.JoinSeam.{all-last-notes}
 use Rattle.beat.proofs.LaneParts.{Still, still, still-lane, lane-parts, front-length, lane-long, front-put, later-none, cells-run, notes-apart}
 
@@ -199,13 +199,11 @@ module _ {s : List ℕ} {to : ℕ} {h : Header} {beats line : ℕ} (lane : ℕ) 
         behind-room = omega (arith, behind, j .second-placed .room)
 
         pub lane-put : {cells : ℕ} → (lastCells s₂ (second .end) cells ≡ cellRest lane (lastCells s₂ (second .end) (second .cells))) × (cells ≤ second .cells)
-            → LanePut s to h beats lane first second s₂ (record {
-              at = front .at + 4 * (left - rest);
-              first = record { notes = front .notes; middle = first .middle; cells = front .cells; end = first .end };
-              second = record { notes = rest; middle = second .middle; cells = cells; end = second .end };
-            })
-        lane-put {cells} d =
-            record {
+            → {x y : Contents} → x ≡ leftOf first (front .notes) (front .cells) → y ≡ leftOf second rest cells
+            → LanePut s to h beats lane first second s₂ (record { at = front .at + 4 * (left - rest); first = x; second = y })
+        lane-put {cells} d e f =
+            rw (e, f)
+            (record {
               noted = record { words = words₂; behind = behind };
               first-left = record { middle-is = refl; end-is = refl; left = p .left };
               second-left = record {
@@ -218,4 +216,4 @@ module _ {s : List ℕ} {to : ℕ} {h : Header} {beats line : ℕ} (lane : ℕ) 
                   cells-few = d .1;
                 };
               };
-            }
+            })

@@ -110,7 +110,10 @@ pub record FirstPut (s : List ℕ) (to : ℕ) (h : Header) (beats line lane : �
   pub lane-is : laneJoined h beats lane s first second ≡ laneBy (r .seam) line (laneNotes lane s first) (laneNotes lane s second)
   pub left : Behind s lane first (r .notes) (r .cells)
 
--- What is left of a take at its places.
+-- What is left of a take, at its places.
+abbrev pub leftOf : Contents → ℕ → ℕ → Contents
+leftOf from notes cells = record { notes = notes; middle = from .middle; cells = cells; end = from .end }
+
 pub record LeftOf (s : List ℕ) (lane : ℕ) (from r : Contents) : Type 0 where
   pub middle-is : r .middle ≡ from .middle
   pub end-is : r .end ≡ from .end

@@ -4,7 +4,7 @@ ghost use Prim.Native.Nat.{_+_, _*_, _≤_};
 ghost use lib.ListN.{length};
 ghost use Rattle.beat.specs.Halving.{Noted};
 ghost use Rattle.beat.specs.Seams.{laneBy, laneNotes};
-ghost use Rattle.beat.specs.LaneNotes.{apartSeam, SeamAsks, keptBy, SeamPut, seamEnd, BackFrom, Joinable, FirstPut, LanePut, JoinNotesAsks, laneJoined, lanesJoined};
+ghost use Rattle.beat.specs.LaneNotes.{apartSeam, SeamAsks, keptBy, SeamPut, seamEnd, BackFrom, Joinable, FirstPut, leftOf, LanePut, JoinNotesAsks, laneJoined, lanesJoined};
 use crate::halves::Contents;
 use crate::seam;
 use crate::seam::Seam;
@@ -154,38 +154,31 @@ pub struct Rests {
     pub second: Contents,
 }
 
-// The joined notes of a lane that stands in front of both takes.
-fn put_lane(
-    s: &mut [u32],
-    to: usize,
-    h: Header,
-    beats: u32,
-    line: u32,
-    lane: u32,
-    first: Contents,
-    second: Contents,
-) -> Rests
-    requires { ⌜ Joinable (now s) to h beats line first second (laneJoined h beats lane (now s) first second) ⌝ }
-    ensures { λ r. ⌜ LanePut (now (s .entry)) to h beats lane first second (now (s .exit)) r ⌝ }
+// So many notes and cells are left of a take.
+fn left_of(from: Contents, notes: usize, cells: usize) -> Contents
+    ensures { λ r. ⌜ r ≡ leftOf from notes cells ⌝ }
 {
-    let front = put_front(s, to, h, beats, line, lane, first, second);
-    let left = behind_seam(s, front.seam, lane, second.middle, second.notes);
-    let rest = seam::put_note_run(s, front.at, lane, line, second.middle, left);
-    let cells = seam::behind_cell_run(s, second.end, second.cells, lane);
+    Contents {
+        notes,
+        middle: from.middle,
+        cells,
+        end: from.end,
+    }
+}
+
+// The joined notes of a lane that stands in front of what is left of both takes.
+fn put_lane(s: &mut [u32], h: Header, beats: u32, line: u32, lane: u32, from: Rests) -> Rests
+    requires { ⌜ Joinable (now s) (from .at) h beats line (from .first) (from .second) (laneJoined h beats lane (now s) (from .first) (from .second)) ⌝ }
+    ensures { λ r. ⌜ LanePut (now (s .entry)) (from .at) h beats lane (from .first) (from .second) (now (s .exit)) r ⌝ }
+{
+    let front = put_front(s, from.at, h, beats, line, lane, from.first, from.second);
+    let left = behind_seam(s, front.seam, lane, from.second.middle, from.second.notes);
+    let rest = seam::put_note_run(s, front.at, lane, line, from.second.middle, left);
+    let cells = seam::behind_cell_run(s, from.second.end, from.second.cells, lane);
     Rests {
         at: front.at + 4 * (left - rest),
-        first: Contents {
-            notes: front.notes,
-            middle: first.middle,
-            cells: front.cells,
-            end: first.end,
-        },
-        second: Contents {
-            notes: rest,
-            middle: second.middle,
-            cells,
-            end: second.end,
-        },
+        first: left_of(from.first, front.notes, front.cells),
+        second: left_of(from.second, rest, cells),
     }
 }
 
@@ -211,7 +204,7 @@ pub fn put_joined_notes(
     };
     let mut lane = seam::least_lane(s, first, second);
     while lane < 2048 {
-        rests = put_lane(s, rests.at, h, beats, line, lane, rests.first, rests.second);
+        rests = put_lane(s, h, beats, line, lane, rests);
         lane = seam::least_lane(s, rests.first, rests.second);
     }
     rests.at

@@ -7,6 +7,7 @@ use Rattle.beat.proofs.lanes.put_lane.Tie as tie
 use Rattle.beat.proofs.lanes.put_lane.Reads as reads
 use Rattle.beat.proofs.lanes.put_lane.Lts as lts
 use Rattle.beat.proofs.lanes.behind_seam.Reads as behind-seam-reads
+use Rattle.beat.proofs.lanes.left_of.Reads as left-of-reads
 use Rattle.beat.proofs.lanes.put_front.Reads as put-front-reads
 use Rattle.beat.proofs.seam.behind_cell_run.Reads as behind-cell-run-reads
 use Rattle.beat.proofs.seam.put_note_run.Reads as put-note-run-reads
@@ -23,20 +24,26 @@ put-note-run-requires c κs = second-asks (c .before .before .before .before .be
 behind-cell-run-requires : tie.Need-behind-cell-run-requires
 behind-cell-run-requires c κs = second-cells-asks (c .before .before .before .before .before .before .before .before .before .before .before .before .args .lane) (c .before .before .before .before .before .before .before .before .before .before .before .before .pre) (c .before .before .before .before .before .before .before .before .before .put-front .ensures) (c .before .before .before .before .before .behind-seam .ensures) (c .before .before .before .put-note-run .ensures)
 
-sub-t21 : tie.Need-sub-t21
-sub-t21 c = back-few (c .before .before .before .before .before .before .before .before .before .before .before .before .before .args .lane) (c .before .before .before .before .before .before .before .before .before .before .before .before .before .pre) (c .before .before .before .before .before .before .before .before .before .before .put-front .ensures) (c .before .before .before .before .before .before .behind-seam .ensures) (c .before .before .before .before .put-note-run .ensures)
+sub-t19 : tie.Need-sub-t19
+sub-t19 c = back-few (c .before .before .before .before .before .before .before .before .before .before .before .before .before .args .lane) (c .before .before .before .before .before .before .before .before .before .before .before .before .before .pre) (c .before .before .before .before .before .before .before .before .before .before .put-front .ensures) (c .before .before .before .before .before .before .behind-seam .ensures) (c .before .before .before .before .put-note-run .ensures)
 
-mul-t22 : tie.Need-mul-t22
-mul-t22 c = search needs
+mul-t20 : tie.Need-mul-t20
+mul-t20 c = search needs
 
-add-t23 : tie.Need-add-t23
-add-t23 c = omega (arith, behind-room (c .before .before .before .before .before .before .before .before .before .before .before .before .before .before .args .lane) (c .before .before .before .before .before .before .before .before .before .before .before .before .before .before .pre) (c .before .before .before .before .before .before .before .before .before .before .before .put-front .ensures) (c .before .before .before .before .before .before .before .behind-seam .ensures) (c .before .before .before .before .before .put-note-run .ensures))
+add-t21 : tie.Need-add-t21
+add-t21 c = omega (arith, behind-room (c .before .before .before .before .before .before .before .before .before .before .before .before .before .before .args .lane) (c .before .before .before .before .before .before .before .before .before .before .before .before .before .before .pre) (c .before .before .before .before .before .before .before .before .before .before .before .put-front .ensures) (c .before .before .before .before .before .before .before .behind-seam .ensures) (c .before .before .before .before .before .put-note-run .ensures))
+
+left-of-requires : tie.Need-left-of-requires
+left-of-requires c κs = search needs
+
+left-of-requires-2 : tie.Need-left-of-requires-2
+left-of-requires-2 c κs = search needs
 
 same-length : tie.Need-same-length
 same-length c = search needs
 
 returns : tie.Need-returns
-returns c = lane-put (c .before .before .before .before .before .before .before .before .before .before .before .before .before .before .args .lane) (c .before .before .before .before .before .before .before .before .before .before .before .before .before .before .pre) (c .before .before .before .before .before .before .before .before .before .before .before .put-front .ensures) (c .before .before .before .before .before .before .before .behind-seam .ensures) (c .before .before .before .before .before .put-note-run .ensures) (c .before .behind-cell-run .ensures)
+returns c = lane-put (c .before .before .before .before .before .before .before .before .before .before .before .before .before .before .before .before .args .lane) (c .before .before .before .before .before .before .before .before .before .before .before .before .before .before .before .before .pre) (c .before .before .before .before .before .before .before .before .before .before .before .before .before .put-front .ensures) (c .before .before .before .before .before .before .before .before .before .behind-seam .ensures) (c .before .before .before .before .before .before .before .put-note-run .ensures) (c .before .before .before .behind-cell-run .ensures) (c .before .left-of .ensures) (c .left-of2 .ensures)
 
 pub put-lane-spec : {M : Type 1} → statement M
 put-lane-spec =
@@ -46,8 +53,10 @@ put-lane-spec =
     behind-seam-requires
     put-note-run-requires
     behind-cell-run-requires
-    sub-t21
-    mul-t22
-    add-t23
+    sub-t19
+    mul-t20
+    add-t21
+    left-of-requires
+    left-of-requires-2
     same-length
     returns)
