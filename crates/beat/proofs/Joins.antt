@@ -23,7 +23,7 @@ use Rattle.laws.specs.Sound.{sound-beats}
 use Rattle.beat.specs.Counting.{FitAsks}
 use Rattle.beat.specs.Joined.{JoinAsks, PutAsks}
 use Rattle.beat.specs.Joining.{joinAsked}
-use Rattle.beat.proofs.Calls.{after-refused, after-done}
+use Rattle.beat.proofs.Calls.{after-refused, after-done, five}
 use Rattle.beat.proofs.Splits.{header-ok}
 
 -- ---- questions 2, 3 and 4, by the way that the code goes
@@ -60,15 +60,6 @@ module _ (h : Header) (s : List ℕ) (i j : ℕ) where
       second-sound f = f ∙ rw (← e, not-false p u)
 
 -- ---- questions 2, 3, 4, 6 and 8
-
-five : (a b c d e : Bool) → firstNo ((2, a) ∷ (3, b) ∷ (4, c) ∷ (6, d) ∷ (8, e) ∷ []) ≡ cond a (cond b (cond c (cond d (cond e 0 8) 6) 4) 3) 2
-unfolding firstNo
-five true true true true true = refl
-five true true true true false = refl
-five true true true false e = refl
-five true true false d e = refl
-five true false c d e = refl
-five false b c d e = refl
 
 five-yes : (a b c d e : Bool) → _≡_ {A = ℕ} (cond a (cond b (cond c (cond d (cond e 0 8) 6) 4) 3) 2) 0
     → (a ≡ true) × (b ≡ true) × (c ≡ true) × (d ≡ true) × (e ≡ true)
@@ -119,7 +110,7 @@ module _ (h : Header) (s : List ℕ) (i j k : ℕ) where
 
   asked-is : joinAsked h s i j k ≡ cond below (cond apart (cond (sound h s i j) (cond short (cond room 0 8) 6) 4) 3) 2
   unfolding joinAsked
-  asked-is = rw (q2, q3, q4, q6, q8) (five below apart (sound h s i j) short room)
+  asked-is = rw (q2, q3, q4, q6, q8) (five 2 3 4 6 8 below apart (sound h s i j) short room)
 
   unlike : (x y : ℕ) → not (eqb x y) ≡ true → x ≡ y → ⊥
   unlike x y e f = true≢false (sym e ∙ rw (eq-eqb x y f))
