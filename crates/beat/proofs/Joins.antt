@@ -20,8 +20,8 @@ use Rattle.model.specs.declared.HeaderAnswer.the-variants as answers
 use Rattle.model.proofs.Headers.{refused-means, valid-means}
 use Rattle.laws.specs.Booleans.{and-left, and-right}
 use Rattle.laws.specs.Sound.{sound-beats}
-use Rattle.beat.specs.Counting.{FitAsks}
-use Rattle.beat.specs.Joined.{JoinAsks, PutAsks}
+use Rattle.cuts.specs.Counting.{FitAsks}
+use Rattle.cuts.specs.Joined.{JoinAsks, PutAsks}
 use Rattle.beat.specs.Joining.{joinAsked}
 use Rattle.beat.proofs.Calls.{after-refused, after-done, five}
 use Rattle.beat.proofs.Splits.{header-ok}

@@ -22,7 +22,7 @@ use Rattle.session.specs.Listing.{cellsListed}
 use Rattle.session.proofs.Frames.{shelf-framed}
 use Rattle.laws.specs.Reading.{length-read}
 use Rattle.session.proofs.Readings.{notes-words, notes-written}
-use Rattle.beat.specs.Making.{Made, CellsAsks, cellsAt}
+use Rattle.cuts.specs.Making.{Made, CellsAsks, cellsAt}
 use Rattle.beat.specs.Laying.{LayAsks, laidWords}
 use Rattle.beat.proofs.Asks.{list-passed}
 

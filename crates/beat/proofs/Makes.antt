@@ -27,7 +27,7 @@ use Rattle.session.proofs.Counts.{Beats, note-beats}
 use Rattle.session.proofs.Readings.{notes-cons, note-same}
 use Rattle.laws.specs.Notes.{fair}
 use Rattle.session.proofs.Checks.{count-asks}
-use Rattle.beat.specs.Making.{Made, touchedCells, crossedCells, cellsBehind, LinesAsks, NoteAsks, CellsAsks, cellsAt}
+use Rattle.cuts.specs.Making.{Made, touchedCells, crossedCells, cellsBehind, LinesAsks, NoteAsks, CellsAsks, cellsAt}
 
 -- ---- the cell on a line
 

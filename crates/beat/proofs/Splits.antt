@@ -25,11 +25,12 @@ use Rattle.laws.specs.Booleans.{and-left, and-right}
 use Rattle.laws.specs.Reached.{split-number}
 use Rattle.laws.specs.Sessions.{length-words}
 use Rattle.laws.specs.Sound.{sound-beats}
-use Rattle.beat.specs.declared.halves.Half.{Half}
-use Rattle.beat.specs.Halving.{leftHalf, rightHalf, halfOf, HalfAsks}
+use Rattle.cuts.specs.declared.halves.Half.{Half}
+use Rattle.cuts.specs.Halving.{leftHalf, rightHalf, halfOf, HalfAsks}
 use Rattle.beat.specs.Splitting.{splitAsked, SplitAsks}
 use Rattle.beat.proofs.Calls.{after-refused, after-done}
-use Rattle.beat.proofs.HalfWords.{shelves-apart, shelf-inside, half-fits}
+use Rattle.session.proofs.Sources.{beats-is, inside-session, place-asks}
+use Rattle.cuts.proofs.HalfWords.{shelves-apart, half-fits}
 
 -- ---- question 2 and question 3, by the way that the code goes
 
@@ -135,43 +136,16 @@ module _ (h : Header) (s : List ℕ) (i k l r : ℕ) where
 
 -- ---- the shelf that is read
 
--- what its place asks
-pub place-asks : {h : Header} {len i : ℕ} → InRange h len → i < h .shelves → (i < h .shelves) × (h .shelves ≤ maxShelves) × (h .words ≤ maxWords)
-place-asks range below-K = (below-K, range .few-shelves, range .small)
-
--- it lies inside the session
-pub inside-session : {h : Header} {len i : ℕ} → InRange h len → i < h .shelves → {at : ℕ} → at ≡ shelfAt h i → at + h .words ≤ len
-inside-session {h} {len} {i} range below-K place = omega (arith, place, shelf-inside h i len range below-K)
-
 module _ (h : Header) (s : List ℕ) (i : ℕ) (range : InRange h (length s)) (below-K : i < h .shelves) where
   module _ {at : ℕ} (place : at ≡ shelfAt h i) where
-    inside : at + h .words ≤ length s
-    inside = inside-session range below-K place
-
-    part-is : take (at + h .words - at) (drop at s) ≡ shelf h s i
-    unfolding shelf
-    part-is = let w : at + h .words - at ≡ h .words = omega arith in rw (w, place)
-
-    pub sound-asks : (0 < h .delta) × (h .delta ≤ maxDelta) × (h .epsilon ≤ h .delta) × (minWords ≤ h .words) × (length (take (at + h .words - at) (drop at s)) ≡ h .words)
-    sound-asks =
-        let w : at + h .words - at ≡ h .words = omega arith in
-        (range .some-ticks, range .few-ticks, range .kept-within, range .large, rw w (length-part s at (h .words) inside))
-
-    pub sound-is : {o : Bool} → o ≡ soundShelf h (take (at + h .words - at) (drop at s)) → o ≡ soundShelf h (shelf h s i)
-    sound-is e = e ∙ ap (soundShelf h) part-is
-
-    pub beats-is : getD s at 0 ≡ (takeAt h s i) .beats
-    unfolding takeIn shelf
-    beats-is = rw (place, getD-take (h .words) (drop (shelfAt h i) s) 0 0 (omega (arith, range .large)), getD-drop (shelfAt h i) s 0 0, add-zero (shelfAt h i))
-
     module _ (k : ℕ) where
       pub beat-behind : getD s at 0 < k → beatWithin h s i k ≡ false
       unfolding beatWithin
-      beat-behind less = lt-leb k ((takeAt h s i) .beats) (omega (arith, beats-is))
+      beat-behind less = lt-leb k ((takeAt h s i) .beats) (omega (arith, beats-is h s i range below-K place))
 
       pub beat-inside : k ≤ getD s at 0 → beatWithin h s i k ≡ true
       unfolding beatWithin
-      beat-inside le = le-leb k ((takeAt h s i) .beats) (omega (arith, beats-is))
+      beat-inside le = le-leb k ((takeAt h s i) .beats) (omega (arith, beats-is h s i range below-K place))
 
 -- ---- both halves
 
@@ -223,7 +197,7 @@ module _ {s : List ℕ} {h : Header} {i k l r : ℕ} (a : SplitAsks s h i k l r)
 
   module _ {at : ℕ} (place : at ≡ shelfAt h i) where
     pub source-inside : at + h .words ≤ length s
-    source-inside = inside h s i range (granted .take-below) place
+    source-inside = inside-session range (granted .take-below) place
 
     beats-are : getD s at 0 ≡ (takeAt h s i) .beats
     beats-are = beats-is h s i range (granted .take-below) place

@@ -7,7 +7,7 @@ ghost use Rattle.model.specs.Lists.{gather};
 ghost use Rattle.model.specs.Limits.{maxBeats};
 ghost use Rattle.model.specs.Pieces.{cellAt, cellsOfNote};
 ghost use Rattle.model.specs.Takes.{cellWords};
-ghost use Rattle.beat.specs.Making.{Made, touchedCells, crossedCells, cellsBehind, LinesAsks, NoteAsks, CellsAsks, cellsAt};
+ghost use Rattle.cuts.specs.Making.{Made, touchedCells, crossedCells, cellsBehind, LinesAsks, NoteAsks, CellsAsks, cellsAt};
 use model::Note;
 
 // The cell of a note on a line of a beat.

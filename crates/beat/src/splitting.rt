@@ -6,7 +6,7 @@ ghost use lib.ListN.{length};
 ghost use Rattle.model.specs.Machine.{splitCall};
 ghost use Rattle.model.specs.Questions.{headerOk, results, putAll, number, after};
 ghost use Rattle.beat.specs.Splitting.{splitAsked, SplitAsks};
-use crate::halves;
+use cuts::halves;
 use model::Header;
 use model::HeaderAnswer;
 use session::header;

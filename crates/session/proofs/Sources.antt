@@ -3,13 +3,16 @@ use mathlib.Core.Path.{_≡_, ap, _∙_}
 use mathlib.Core.Bool.{Bool}
 use mathlib.Core.List.{List}
 use Prim.Native.Nat.{ℕ, _+_, _-_, _≤_, _<_}
-use native.Mathlib.Nat.{suc-mul, mul-le-mul-right}
+use native.Mathlib.Nat.{add-zero, suc-mul, mul-le-mul-right}
 use native.Mathlib.Omega.{arith}
-use lib.ListN.{length, take, drop}
+use lib.ListN.{length, getD, take, drop}
+use lib.Seq.{getD-drop, getD-take}
 use Rattle.words.specs.Parts.{length-part}
 use Rattle.model.specs.Limits.{maxDelta, maxShelves, maxWords, minWords}
 use Rattle.model.specs.Session.{shelf, shelfAt}
+use Rattle.model.specs.Questions.{takeAt}
 use Rattle.model.specs.Soundness.{soundShelf}
+use Rattle.model.specs.Takes.{takeIn}
 use Rattle.model.specs.declared.Header.{Header}
 use Rattle.model.proofs.Headers.{InRange}
 
@@ -38,3 +41,7 @@ module _ (h : Header) (s : List ℕ) (i : ℕ) (range : InRange h (length s)) (b
 
   pub sound-is : {o : Bool} → o ≡ soundShelf h (take (at + h .words - at) (drop at s)) → o ≡ soundShelf h (shelf h s i)
   sound-is e = e ∙ ap (soundShelf h) part-is
+
+  pub beats-is : getD s at 0 ≡ (takeAt h s i) .beats
+  unfolding takeIn shelf
+  beats-is = rw (place, getD-take (h .words) (drop (shelfAt h i) s) 0 0 (omega (arith, range .large)), getD-drop (shelfAt h i) s 0 0, add-zero (shelfAt h i))

@@ -1,7 +1,7 @@
 -- `beat::joining::is_sound` meets its contract. Assumes nothing.
 use native.Mathlib.Omega.{arith}
 use Rattle.model.proofs.Headers.{in-range}
-use Rattle.beat.proofs.Splits.{place-asks, inside-session, sound-asks, sound-is}
+use Rattle.session.proofs.Sources.{place-asks, inside-session, sound-asks, sound-is}
 use borrow.Author.Needs.{needs}
 use Rattle.beat.proofs.joining.is_sound.Statement.{statement}
 use Rattle.beat.proofs.joining.is_sound.Tie as tie

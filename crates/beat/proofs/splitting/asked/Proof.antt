@@ -1,7 +1,8 @@
 -- `beat::splitting::asked` meets its contract. Assumes nothing.
 use native.Mathlib.Omega.{arith}
 use Rattle.model.proofs.Headers.{in-range}
-use Rattle.beat.proofs.Splits.{no-shelf, same-shelf, not-sound, too-late, all-yes, shelf-below, place-asks, inside-session, sound-is, sound-asks, beat-behind, beat-inside}
+use Rattle.beat.proofs.Splits.{no-shelf, same-shelf, not-sound, too-late, all-yes, shelf-below, beat-behind, beat-inside}
+use Rattle.session.proofs.Sources.{place-asks, inside-session, sound-is, sound-asks}
 use borrow.Author.Needs.{needs}
 use Rattle.beat.proofs.splitting.asked.Statement.{statement}
 use Rattle.beat.proofs.splitting.asked.Tie as tie
