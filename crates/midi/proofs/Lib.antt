@@ -11,3 +11,8 @@ pub mod Playing
 pub mod RoundTrip
 pub mod Recordings
 pub mod Lengths
+pub mod Placing
+pub mod Totals
+pub mod Passes
+pub mod SecondPass
+pub mod Merging

@@ -81,7 +81,7 @@ module _ (l top : ℕ) where
       let g : t ≤ n .start = c .0 in
       (omega arith, (omega (arith, f .long), behind e t h ns (a .1) (b .1) (c .1)))
 
-  starts-later : (m : Note) (ns : List Note) → m .lane ≡ l → All (λ n. n .lane ≡ l) ns → All (Follow m) ns → All (λ n. m .end ≤ n .start) ns
+  pub starts-later : (m : Note) (ns : List Note) → m .lane ≡ l → All (λ n. n .lane ≡ l) ns → All (Follow m) ns → All (λ n. m .end ≤ n .start) ns
   starts-later m [] e a f = tt
   starts-later m (n ∷ ns) e a f = (go (f .0), starts-later m ns e (a .1) (f .1))
     where

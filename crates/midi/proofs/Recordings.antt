@@ -16,10 +16,11 @@ use Rattle.model.specs.Histories.{Recording}
 use Rattle.model.specs.Takes.{byLane, lanes}
 use Rattle.model.specs.declared.Note.{Note}
 use Rattle.laws.specs.Booleans.{and-left, and-right}
+use Rattle.laws.specs.Lanes.{all-both, all-byLane}
 use Rattle.laws.specs.Lists.{gather-one, keep-append, keep-gather}
 use Rattle.laws.specs.Notes.{Follow, above, later}
 use Rattle.laws.specs.OneNote.{Valid}
-use Rattle.laws.specs.Relations.{All, Pairs, all-append, all-imp, all-kept, pairs-append}
+use Rattle.laws.specs.Relations.{All, Pairs, all-append, all-consIf, all-count, all-imp, all-keep, all-kept, pairs-append}
 use Rattle.midi.specs.Lanes.{laneAt, putLane}
 use Rattle.midi.specs.Numbers.{word32}
 use Rattle.midi.specs.Events.{Place, place, Message, starts, ends, passed, Event, illegal, event, finished, eventAt}
@@ -48,15 +49,10 @@ use Rattle.midi.proofs.Playing.{laneNotes, noteAt}
 use Rattle.midi.proofs.Ranges.{Fits, fits-later, fits-ok}
 use Rattle.midi.proofs.Tables.{Shaped, shaped-new, put-shaped, lane-put, lane-other, lane-new}
 
-all-two : {A : Type 0} (P Q S : A → Type 0) (xs : List A) → ((x : A) → P x → Q x → S x) → All P xs → All Q xs → All S xs
-all-two P Q S [] f a b = tt
-all-two P Q S (x ∷ xs) f a b = (f x (a .0) (b .0), all-two P Q S xs f (a .1) (b .1))
-
 -- ---- what holds at each place of a track
 
 -- The notes ended so far in a lane, and what sounds there.
-pub record LaneHolds (tick start velocity : ℕ) (ns : List Note) : Type 0 where
-  pub fits : All (Fits tick) ns
+pub record LaneHolds (start velocity : ℕ) (ns : List Note) : Type 0 where
   pub order : Pairs Follow ns
   pub soft : velocity ≤ 127
   pub free : 1 ≤ velocity → All (λ n. n .end ≤ start) ns
@@ -64,22 +60,23 @@ pub record LaneHolds (tick start velocity : ℕ) (ns : List Note) : Type 0 where
 pub record Holds (tick : ℕ) (t : Sounding) (notes : List Note) : Type 0 where
   pub starts : Shaped (t .start)
   pub velocities : Shaped (t .velocity)
-  pub lane : (l : ℕ) → l < 2048 → LaneHolds tick (laneAt (t .start) l) (laneAt (t .velocity) l) (laneNotes l notes)
+  pub fits : All (Fits tick) notes
+  pub lane : (l : ℕ) → l < 2048 → LaneHolds (laneAt (t .start) l) (laneAt (t .velocity) l) (laneNotes l notes)
 
 pub holds-start : Holds 0 silence []
 holds-start = record {
   starts = shaped-new 0;
   velocities = shaped-new 0;
-  lane = λ l h. record { fits = tt; order = tt; soft = omega (arith, lane-new l 0 h); free = λ k. tt };
+  fits = tt;
+  lane = λ l h. record { order = tt; soft = omega (arith, lane-new l 0 h); free = λ k. tt };
 }
 
 pub holds-later : (u v : ℕ) (t : Sounding) (notes : List Note) → u ≤ v → Holds u t notes → Holds v t notes
 holds-later u v t notes h i = record {
   starts = i .starts;
   velocities = i .velocities;
-  lane = λ l k.
-      let j = i .lane l k in
-      record { fits = all-imp (Fits u) (Fits v) (laneNotes l notes) (fits-later u v h) (j .fits); order = j .order; soft = j .soft; free = j .free };
+  fits = all-imp (Fits u) (Fits v) notes (fits-later u v h) (i .fits);
+  lane = i .lane;
 }
 
 -- a note starts
@@ -87,47 +84,52 @@ start-holds : (tick l v : ℕ) (t : Sounding) (notes : List Note) → l < 2048 �
 start-holds tick l v t notes h k i = record {
   starts = put-shaped (t .start) (i .starts) l tick h;
   velocities = put-shaped (t .velocity) (i .velocities) l v h;
+  fits = i .fits;
   lane = λ j m. go j m (ℕ-discrete j l);
 }
   where
-    go : (j : ℕ) → j < 2048 → Dec (j ≡ l) → LaneHolds tick (laneAt (putLane (t .start) l tick) j) (laneAt (putLane (t .velocity) l v) j) (laneNotes j notes)
+    go : (j : ℕ) → j < 2048 → Dec (j ≡ l) → LaneHolds (laneAt (putLane (t .start) l tick) j) (laneAt (putLane (t .velocity) l v) j) (laneNotes j notes)
     go j m (yes d) =
-        let w = i .lane l h in
         rw (d, lane-put (t .start) (i .starts) l tick h, lane-put (t .velocity) (i .velocities) l v h)
         (record {
-          fits = w .fits;
-          order = w .order;
+          order = i .lane l h .order;
           soft = omega arith;
-          free = λ z. all-imp (Fits tick) (λ n. n .end ≤ tick) (laneNotes l notes) (λ n f. f .within) (w .fits);
+          free = λ z. all-imp (Fits tick) (λ n. n .end ≤ tick) (laneNotes l notes) (λ n f. f .within) (all-keep (Fits tick) (λ n. eqb (n .lane) l) notes (i .fits));
         })
     go j m (no d) = rw (lane-other (t .start) (i .starts) l tick h j d, lane-other (t .velocity) (i .velocities) l v h j d) (i .lane j m)
 
 -- ---- a note ends
 
-record Ended (tick l : ℕ) (ns : List Note) : Type 0 where
-  fits : All (Fits tick) ns
-  order : Pairs Follow ns
-
 pub lane-of : (l : ℕ) (notes : List Note) → All (λ n. n .lane ≡ l) (laneNotes l notes)
 lane-of l notes =
     all-imp (λ n. eqb (n .lane) l ≡ true) (λ n. n .lane ≡ l) (laneNotes l notes) (λ n e. eqb-true (n .lane) l e) (all-kept (λ n. eqb (n .lane) l) notes)
 
-add-ended : (tick l start velocity : ℕ) (ns : List Note) → l < 2048 → All (λ n. n .lane ≡ l) ns → LaneHolds tick start velocity ns
-    → Ended tick l (ns ++ ended l start velocity tick)
+ended-fits : (tick l start velocity : ℕ) → l < 2048 → velocity ≤ 127 → All (Fits tick) (ended l start velocity tick)
 unfolding ended
-add-ended tick l start velocity ns h o i = go (ltb 0 velocity && ltb start tick) refl
+ended-fits tick l start velocity h soft =
+    all-consIf (Fits tick) (ltb 0 velocity && ltb start tick) (noteAt l start tick velocity) []
+    (λ e. record {
+      low = h;
+      long = ltb-true start tick (and-right (ltb 0 velocity) (ltb start tick) e);
+      within = omega arith;
+      loud = ltb-true 0 velocity (and-left (ltb 0 velocity) (ltb start tick) e);
+      soft = soft;
+    })
+    tt
+
+ended-order : (tick l start velocity : ℕ) (ns : List Note) → All (λ n. n .lane ≡ l) ns → LaneHolds start velocity ns
+    → Pairs Follow (ns ++ ended l start velocity tick)
+unfolding ended
+ended-order tick l start velocity ns o i = go (ltb 0 velocity && ltb start tick) refl
   where
-    go : (b : Bool) → (ltb 0 velocity && ltb start tick) ≡ b → Ended tick l (ns ++ consIf b (noteAt l start tick velocity) [])
+    go : (b : Bool) → (ltb 0 velocity && ltb start tick) ≡ b → Pairs Follow (ns ++ consIf b (noteAt l start tick velocity) [])
     go true e =
         let p = ltb-true 0 velocity (and-left (ltb 0 velocity) (ltb start tick) e) in
-        let q = ltb-true start tick (and-right (ltb 0 velocity) (ltb start tick) e) in
         let n = noteAt l start tick velocity in
-        record {
-          fits = all-append (Fits tick) ns (n ∷ []) (i .fits) (record { low = h; long = q; within = omega arith; loud = p; soft = i .soft }, tt);
-          order = pairs-append Follow ns (n ∷ []) (i .order) (tt, tt)
-              (all-two (λ m. m .lane ≡ l) (λ m. m .end ≤ start) (λ m. All (Follow m) (n ∷ [])) ns (λ m a b. (later a b, tt)) o (i .free p));
-        }
-    go false e = rw append-nil (record { fits = i .fits; order = i .order })
+        pairs-append Follow ns (n ∷ []) (i .order) (tt, tt)
+        (all-imp (λ m. (m .lane ≡ l) × (m .end ≤ start)) (λ m. All (Follow m) (n ∷ [])) ns (λ m k. (later (k .0) (k .1), tt))
+        (all-both (λ m. m .lane ≡ l) (λ m. m .end ≤ start) ns o (i .free p)))
+    go false e = rw append-nil (i .order)
 
 -- The note that ends stands in its own lane, and in no other.
 pub ended-own : (l start velocity tick : ℕ) → laneNotes l (ended l start velocity tick) ≡ ended l start velocity tick
@@ -150,20 +152,24 @@ stop-holds : (tick l : ℕ) (t : Sounding) (notes : List Note) → l < 2048 → 
 stop-holds tick l t notes h i = record {
   starts = i .starts;
   velocities = put-shaped (t .velocity) (i .velocities) l 0 h;
+  fits = all-append (Fits tick) notes (endedLane t tick l) (i .fits) (ended-fits tick l (laneAt (t .start) l) (laneAt (t .velocity) l) h (i .lane l h .soft));
   lane = λ j m. go j m (ℕ-discrete j l);
 }
   where
     go : (j : ℕ) → j < 2048 → Dec (j ≡ l)
-        → LaneHolds tick (laneAt (t .start) j) (laneAt (putLane (t .velocity) l 0) j) (laneNotes j (notes ++ endedLane t tick l))
+        → LaneHolds (laneAt (t .start) j) (laneAt (putLane (t .velocity) l 0) j) (laneNotes j (notes ++ endedLane t tick l))
     go j m (yes d) =
-        let w = add-ended tick l (laneAt (t .start) l) (laneAt (t .velocity) l) (laneNotes l notes) h (lane-of l notes) (i .lane l h) in
         rw (
           d,
           lane-put (t .velocity) (i .velocities) l 0 h,
           keep-append (λ n. eqb (n .lane) l) notes (endedLane t tick l),
           ended-own l (laneAt (t .start) l) (laneAt (t .velocity) l) tick,
         )
-        (record { fits = w .fits; order = w .order; soft = omega arith; free = λ z. absurd (omega arith) })
+        (record {
+          order = ended-order tick l (laneAt (t .start) l) (laneAt (t .velocity) l) (laneNotes l notes) (lane-of l notes) (i .lane l h);
+          soft = omega arith;
+          free = λ z. absurd (omega arith);
+        })
     go j m (no d) =
         rw (
           lane-other (t .velocity) (i .velocities) l 0 h j d,
@@ -188,21 +194,18 @@ play-holds tick passed t notes r i = i
 
 -- ---- the end of track
 
-record InLanes (tick i : ℕ) (ns : List Note) : Type 0 where
-  fits : All (Fits tick) ns
+record InLanes (i : ℕ) (ns : List Note) : Type 0 where
   order : Pairs Follow ns
   low : All (λ n. i ≤ n .lane) ns
 
-in-lanes : (tick : ℕ) (f : ℕ → List Note) → ((l : ℕ) → l < 2048 → Ended tick l (f l)) → ((l : ℕ) → All (λ n. n .lane ≡ l) (f l))
-    → (n i : ℕ) → i + n ≤ 2048 → InLanes tick i (gather f (countFrom n i))
-in-lanes tick f g o zero i h = record { fits = tt; order = tt; low = tt }
-in-lanes tick f g o (suc n) i h =
-    let w = g i (omega arith) in
-    let u = in-lanes tick f g o n (suc i) (omega arith) in
+in-lanes : (f : ℕ → List Note) → ((l : ℕ) → l < 2048 → Pairs Follow (f l)) → ((l : ℕ) → All (λ n. n .lane ≡ l) (f l)) → (n i : ℕ) → i + n ≤ 2048
+    → InLanes i (gather f (countFrom n i))
+in-lanes f g o zero i h = record { order = tt; low = tt }
+in-lanes f g o (suc n) i h =
+    let u = in-lanes f g o n (suc i) (omega arith) in
     let ys = gather f (countFrom n (suc i)) in
     record {
-      fits = all-append (Fits tick) (f i) ys (w .fits) (u .fits);
-      order = pairs-append Follow (f i) ys (w .order) (u .order)
+      order = pairs-append Follow (f i) ys (g i (omega arith)) (u .order)
           (all-imp (λ m. m .lane ≡ i) (λ m. All (Follow m) ys) (f i)
           (λ m e. all-imp (λ k. suc i ≤ k .lane) (Follow m) ys (λ k a. above (omega arith)) (u .low)) (o i));
       low = all-append (λ m. i ≤ m .lane) (f i) ys (all-imp (λ m. m .lane ≡ i) (λ m. i ≤ m .lane) (f i) (λ m e. omega arith) (o i))
@@ -220,28 +223,41 @@ lane-end tick t notes l h =
     (λ j d. ended-other l j (laneAt (t .start) j) (laneAt (t .velocity) j) tick (λ e. d (sym e)))
     ∙ ended-own l (laneAt (t .start) l) (laneAt (t .velocity) l) tick)
 
+-- All notes of a track are in range.
+pub all-fit : (tick : ℕ) (t : Sounding) (notes : List Note) → Holds tick t notes → All (Fits tick) (notes ++ endedAll t tick)
+all-fit tick t notes i =
+    all-append (Fits tick) notes (endedAll t tick) (i .fits)
+    (all-count (Fits tick) (endedLane t tick) 2048 0
+    (λ l a b. ended-fits tick l (laneAt (t .start) l) (laneAt (t .velocity) l) b (i .lane l b .soft)))
+
+-- A lane of all of them is in order.
+pub lanes-follow : (tick : ℕ) (t : Sounding) (notes : List Note) → Holds tick t notes → (l : ℕ) → l < 2048
+    → Pairs Follow (laneNotes l (notes ++ endedAll t tick))
+lanes-follow tick t notes i l k =
+    rw (lane-end tick t notes l k)
+    (ended-order tick l (laneAt (t .start) l) (laneAt (t .velocity) l) (laneNotes l notes) (lane-of l notes) (i .lane l k))
+
 module _ (δ : ℕ) (z : 1 ≤ δ) where
-  pub recorded-valid : (tick : ℕ) (t : Sounding) (notes : List Note) → tick ≤ latest δ → Holds tick t notes → Valid δ (recorded δ tick t notes)
-  unfolding recorded byLane
-  recorded-valid tick t notes h i = (
+  -- Notes in range whose lanes are in order are a valid recording in order of lanes.
+  pub lanes-valid : (tick : ℕ) (all : List Note) → tick ≤ latest δ → All (Fits tick) all → ((l : ℕ) → l < 2048 → Pairs Follow (laneNotes l all))
+      → Valid δ (record { beats = beatsOf δ tick; notes = byLane (λ n. n .lane) all })
+  unfolding byLane
+  lanes-valid tick all h f g = (
     few,
-    fits-ok δ (beatsOf δ tick) (gather (λ l. laneNotes l all) lanes)
-        (all-imp (Fits tick) (Fits (beatsOf δ tick * δ)) (gather (λ l. laneNotes l all) lanes) (fits-later tick (beatsOf δ tick * δ) top) (w .fits)) (w .order),
+    fits-ok δ (beatsOf δ tick) (byLane (λ n. n .lane) all)
+        (all-byLane (λ n. n .lane) (Fits (beatsOf δ tick * δ)) all (all-imp (Fits tick) (Fits (beatsOf δ tick * δ)) all (fits-later tick (beatsOf δ tick * δ) top) f))
+        (in-lanes (λ l. laneNotes l all) g (λ l. lane-of l all) 2048 0 (omega arith) .order),
   )
     where
-      all : List Note
-      all = notes ++ endedAll t tick
-
       few : beatsOf δ tick ≤ 4096
       few = let a = div-lt-iff-lt-mul {k = δ} {x = tick + (δ - 1)} {y = 4097} z .1 (omega arith) in omega arith
 
       top : tick ≤ beatsOf δ tick * δ
       top = omega (arith, lt-div-mul-add {a = tick + (δ - 1)} {b = δ} z)
 
-      w : InLanes tick 0 (gather (λ l. laneNotes l all) lanes)
-      w = in-lanes tick (λ l. laneNotes l all)
-          (λ l k. rw (lane-end tick t notes l k) (add-ended tick l (laneAt (t .start) l) (laneAt (t .velocity) l) (laneNotes l notes) k (lane-of l notes) (i .lane l k)))
-          (λ l. lane-of l all) 2048 0 (omega arith)
+  pub recorded-valid : (tick : ℕ) (t : Sounding) (notes : List Note) → tick ≤ latest δ → Holds tick t notes → Valid δ (recorded δ tick t notes)
+  unfolding recorded
+  recorded-valid tick t notes h i = lanes-valid tick (notes ++ endedAll t tick) h (all-fit tick t notes i) (lanes-follow tick t notes i)
 
   -- ---- tracks and files
 

@@ -14,7 +14,7 @@ use Rattle.model.specs.Soundness.{notesOk}
 use Rattle.model.specs.Takes.{byLane}
 use Rattle.model.specs.declared.Note.{Note}
 use Rattle.laws.specs.Lists.{gather-count, gather-none}
-use Rattle.laws.specs.Notes.{Follow, above, later, ok-pairs}
+use Rattle.laws.specs.Notes.{Follow, ok-pairs}
 use Rattle.laws.specs.Relations.{All, Pairs, all-imp, all-keep, all-kept, buckets, pairs-imp}
 use Rattle.midi.specs.Lanes.{laneAt}
 use Rattle.midi.specs.Numbers.{word32, quantityBytes}
@@ -24,7 +24,7 @@ use Rattle.midi.specs.Reading.{read, beatsOf, recorded, latest, readTrac
 use Rattle.midi.specs.Writing.{NoteEvent, eventsOf, inOrder, messageBytes, eventBytes, trackBytes, headerBytes, fileBytes}
 use Rattle.midi.proofs.NoteEvents.{steps, lane-in-order}
 use Rattle.midi.proofs.Playing.{laneNotes, rests, Good, Before, Done, play-lanes}
-use Rattle.midi.proofs.Ranges.{Fits, ok-fits}
+use Rattle.midi.proofs.Ranges.{Fits, follow-lane, ok-fits}
 use Rattle.midi.proofs.Replay.{playAll, answerAt, Steps, run-play}
 use Rattle.midi.proofs.Tables.{shaped-new, lane-new}
 
@@ -62,12 +62,8 @@ module _ (top : ℕ) (ns : List Note) (a : All (Fits top) ns) (s : Pairs Follow 
   unfolding byLane
   back out h =
       gather-count (λ l. laneNotes l out) (λ l. laneNotes l ns) 2048 0 (λ l p q. h l q)
-      ∙ buckets (λ n. n .lane) ns 2048 (pairs-imp Follow (λ m n. m .lane ≤ n .lane) ns rises s)
+      ∙ buckets (λ n. n .lane) ns 2048 (pairs-imp Follow (λ m n. m .lane ≤ n .lane) ns follow-lane s)
       (all-imp (Fits top) (λ n. n .lane < 2048) ns (λ n f. f .low) a)
-    where
-      rises : (m n : Note) → Follow m n → m .lane ≤ n .lane
-      rises m n (above h) = omega arith
-      rises m n (later h k) = omega arith
 
   notes-back : byLane (λ n. n .lane) (all-played .notes ++ endedAll (all-played .table) top) ≡ ns
   notes-back = rw (still (all-played .table) (all-played .quiet) top, append-nil) (back (all-played .notes) (all-played .lane))
