@@ -1,6 +1,6 @@
 -- What every event of a track has: it moves forward and stays inside the track, time never goes back, and lanes and velocities are in
 -- range. Assumes nothing.
-use mathlib.Core.Bool.{true, false, _&&_, _||_}
+use mathlib.Core.Bool.{true, _&&_, _||_}
 use mathlib.Core.List.{List}
 use mathlib.Core.Path.{_≡_}
 use Prim.Native.Nat.{ℕ, zero, suc, _+_, _-_, _*_, _/_, _≤_, _<_}

@@ -1,14 +1,14 @@
--- What a written file takes: its numbers the fewest groups, each event three bytes behind its time, and the file a sum of these with
--- a bound by its notes; and all of it is bytes. Assumes nothing.
-use mathlib.Core.Bool.{Bool, true, false}
+-- What a written file takes: each event three bytes behind its time, and the file a sum of these with a bound by its notes; and all of
+-- it is bytes. Assumes nothing.
+use mathlib.Core.Bool.{true}
 use mathlib.Core.List.{List, [], _∷_, _++_}
 use mathlib.Core.Path.{_≡_, refl, ap, _∙_}
-use Prim.Native.Nat.{ℕ, zero, suc, _+_, _-_, _*_, _/_, _%_, _^_, _≤_, _<_}
+use Prim.Native.Nat.{ℕ, suc, _+_, _-_, _*_, _/_, _%_, _≤_, _<_}
 use native.Mathlib.Nat.{mul-le-mul-right}
 use native.Mathlib.Omega.{arith}
 use lib.Dec.{leb, ltb}
 use lib.ListN.{length, length-append}
-use borrow.Author.Tests.{ltb-true, ltb-false}
+use borrow.Author.Tests.{ltb-true}
 use Rattle.model.specs.Lists.{gather}
 use Rattle.model.specs.Soundness.{notesOk}
 use Rattle.model.specs.declared.Note.{Note}
@@ -16,26 +16,11 @@ use Rattle.laws.specs.Relations.{All, all-append}
 use Rattle.midi.specs.Numbers.{quantityBytes}
 use Rattle.midi.specs.Writing.{NoteEvent, order, insert, inOrder, eventsOf, messageBytes, endOfTrack, eventBytes, trackBytes, headerBytes, fileBytes}
 use Rattle.midi.proofs.Branches.{by-test}
+use Rattle.midi.proofs.Groups.{quantity-fewest}
 use Rattle.midi.proofs.NoteEvents.{steps}
 use Rattle.midi.proofs.Ranges.{ok-fits}
 use Rattle.midi.proofs.ReadBack.{Writable}
 use Rattle.midi.proofs.Replay.{Steps}
-
--- ---- the groups of a number
-
--- One to four groups, and fewer would not do.
-pub record Fewest (n : ℕ) (bs : List ℕ) : Type 0 where
-  pub some : 1 ≤ length bs
-  pub four : length bs ≤ 4
-  pub need : 2 ≤ length bs → 128 ^ (length bs - 1) ≤ n
-
-pub quantity-fewest : (n : ℕ) → Fewest n (quantityBytes n)
-unfolding quantityBytes
-quantity-fewest n =
-    by-test (Fewest n) (ltb n 128) (λ a. record { some = omega arith; four = omega arith; need = λ k. absurd (omega arith) })
-    (λ a. by-test (Fewest n) (ltb n 16384) (λ c. let d = ltb-false n 128 a in record { some = omega arith; four = omega arith; need = λ k. d })
-    (λ c. by-test (Fewest n) (ltb n 2097152) (λ e. let d = ltb-false n 16384 c in record { some = omega arith; four = omega arith; need = λ k. d })
-    (λ e. let d = ltb-false n 2097152 e in record { some = omega arith; four = omega arith; need = λ k. d })))
 
 -- ---- lengths
 

@@ -1,6 +1,6 @@
 -- Events in order as a merge of lanes: the least of the lanes' first events is the first of all; and an event as one number, in the
 -- order of the file. Assumes nothing.
-use mathlib.Core.Bool.{Bool, true, false, cond}
+use mathlib.Core.Bool.{cond}
 use mathlib.Core.List.{List, [], _∷_, _++_, append-assoc}
 use mathlib.Core.Logic.{_≢_}
 use mathlib.Core.Path.{_≡_, refl, sym, ap, ap₂, _∙_}

@@ -1,11 +1,11 @@
 -- Events that are in each lane a start and its end by turns play as that lane's notes. Assumes nothing.
-use mathlib.Core.Bool.{Bool, true, false, cond}
+use mathlib.Core.Bool.{cond}
 use mathlib.Core.List.{List, [], _∷_, _++_, append-assoc, append-nil}
 use mathlib.Core.Path.{_≡_, refl, sym, ap, _∙_}
 use Prim.Native.Nat.{ℕ, _≤_, _<_}
 use native.Mathlib.Decide.{ℕ-discrete}
 use native.Mathlib.Omega.{arith}
-use lib.Dec.{ltb, eqb}
+use lib.Dec.{eqb}
 use borrow.Author.Tests.{lt-ltb, eq-eqb, ne-eqb}
 use Rattle.model.specs.Lists.{consIf, keep, gather}
 use Rattle.model.specs.declared.Note.{Note}
@@ -17,7 +17,7 @@ use Rattle.midi.specs.Sounding.{Sounding, startLane, stopLane, ended, en
 use Rattle.midi.specs.Writing.{NoteEvent, noteEvent, startOf, endOf, eventsOf}
 use Rattle.midi.proofs.Loops.{play-start, play-end}
 use Rattle.midi.proofs.ReadBack.{messageOf}
-use Rattle.midi.proofs.Replay.{playThen, playAll}
+use Rattle.midi.proofs.Replay.{playAll}
 use Rattle.midi.proofs.Tables.{Shaped, put-shaped, lane-put, lane-other}
 
 abbrev pub noteAt : ℕ → ℕ → ℕ → ℕ → Note
@@ -198,7 +198,9 @@ module _ (m : NoteEvent) (ms : List NoteEvent) (t : Sounding) (out : List Note) 
 pub play-lanes : (ms : List NoteEvent) (t : Sounding) (out : List Note) (todo : ℕ → List Note) → Before ms t todo → Done ms t out todo
 play-lanes [] t out todo s = done-nil t out todo s
 play-lanes (m ∷ ms) t out todo s =
-    go (next (m .lane) (laneAt (t .start) (m .lane)) (laneAt (t .velocity) (m .lane)) m (laneEvents (m .lane) ms) (todo (m .lane)) (s .good (m .lane) (s .low .0)) (rw own at (s .ready (m .lane) (s .low .0))))
+    let l = m .lane in
+    let r = rw own at (s .ready l (s .low .0)) in
+    go (next l (laneAt (t .start) l) (laneAt (t .velocity) l) m (laneEvents l ms) (todo l) (s .good l (s .low .0)) r)
     (λ t out todo s. play-lanes ms t out todo s)
   where
     go : Next (m .lane) (laneAt (t .start) (m .lane)) (laneAt (t .velocity) (m .lane)) m (laneEvents (m .lane) ms) (todo (m .lane))

@@ -2,22 +2,20 @@
 use mathlib.Core.Bool.{Bool, true, false}
 use mathlib.Core.List.{List, [], _∷_, _++_}
 use mathlib.Core.Path.{_≡_, refl, sym, ap, ap₂, _∙_}
-use Prim.Native.Nat.{ℕ, zero, suc, _+_, _-_, _*_, _/_, _%_, _≤_, _<_}
+use Prim.Native.Nat.{ℕ, zero, suc, _+_, _*_, _/_, _%_, _≤_, _<_}
 use native.Mathlib.Omega.{arith}
-use lib.Dec.{leb, ltb, eqb}
+use lib.Dec.{ltb, eqb}
 use lib.ListN.{length, getD, drop, length-drop}
 use lib.Seq.{drop-drop, drop-append-seam}
-use borrow.Author.Tests.{lt-ltb, le-ltb, le-leb, eq-eqb, ne-eqb, eqb-false, ltb-true}
-use Rattle.midi.specs.Numbers.{Quantity, noQuantity, quantity, quantityFrom, quantityAt, quantityBytes}
+use borrow.Author.Tests.{lt-ltb, le-ltb, le-leb, eq-eqb, ne-eqb, ltb-true}
+use Rattle.midi.specs.Lanes.{channelOf, keyOf}
+use Rattle.midi.specs.Numbers.{quantity, quantityFrom, quantityAt, quantityBytes}
 use Rattle.midi.specs.Events.{
   Place,
   place,
   Message,
   starts,
   ends,
-  passed,
-  Event,
-  illegal,
   event,
   finished,
   channelMessage,
@@ -113,7 +111,7 @@ unfoldable pub messageOf : NoteEvent → Message
 messageOf e = elim (eqb (e .kind) 0) [ true ↦ ends (e .lane) | false ↦ starts (e .lane) (e .velocity) ]
 
 unfoldable pub statusOf : NoteEvent → ℕ
-statusOf e = 128 + e .kind * 16 + e .lane / 128
+statusOf e = 128 + e .kind * 16 + channelOf (e .lane)
 
 -- A channel event of two data bytes.
 channel-read : (b k v : ℕ) (s : List ℕ) (tick q : ℕ) (rest : List ℕ) → b / 32 < 6 → k < 128 → v < 128 → drop q s ≡ k ∷ v ∷ rest
@@ -154,23 +152,23 @@ status-read b k v s tick running q rest h0 h1 hk hv e =
     )
     (ap (λ n. event (place n tick b) (channelMessage b k v)) (omega arith))
 
-end-message : (l v : ℕ) → l < 2048 → channelMessage (128 + 0 * 16 + l / 128) (l % 128) v ≡ ends l
+end-message : (l v : ℕ) → l < 2048 → channelMessage (128 + 0 * 16 + channelOf l) (keyOf l) v ≡ ends l
 unfolding channelMessage
 end-message l v h =
-    rw (ne-eqb ((128 + 0 * 16 + l / 128) / 16) 9 (omega arith), channelMessage, eq-eqb ((128 + 0 * 16 + l / 128) / 16) 8 (omega arith))
+    rw (ne-eqb ((128 + 0 * 16 + channelOf l) / 16) 9 (omega arith), channelMessage, eq-eqb ((128 + 0 * 16 + channelOf l) / 16) 8 (omega arith))
     (ap ends (omega arith))
 
-start-message : (l v : ℕ) → l < 2048 → 1 ≤ v → channelMessage (128 + 1 * 16 + l / 128) (l % 128) v ≡ starts l v
+start-message : (l v : ℕ) → l < 2048 → 1 ≤ v → channelMessage (128 + 1 * 16 + channelOf l) (keyOf l) v ≡ starts l v
 unfolding channelMessage
 start-message l v h hv =
-    rw (eq-eqb ((128 + 1 * 16 + l / 128) / 16) 9 (omega arith), channelMessage, ne-eqb v 0 (λ z. omega arith))
+    rw (eq-eqb ((128 + 1 * 16 + channelOf l) / 16) 9 (omega arith), channelMessage, ne-eqb v 0 (λ z. omega arith))
     (ap (λ n. starts n v) (omega arith))
 
-message-read : (e : NoteEvent) → Writable e → channelMessage (statusOf e) (e .lane % 128) (e .velocity) ≡ messageOf e
+message-read : (e : NoteEvent) → Writable e → channelMessage (statusOf e) (keyOf (e .lane)) (e .velocity) ≡ messageOf e
 unfolding messageOf statusOf
 message-read e w = go (e .kind) (w .kind-low)
   where
-    go : (k : ℕ) → k < 2 → channelMessage (128 + k * 16 + e .lane / 128) (e .lane % 128) (e .velocity)
+    go : (k : ℕ) → k < 2 → channelMessage (128 + k * 16 + channelOf (e .lane)) (keyOf (e .lane)) (e .velocity)
         ≡ elim (eqb k 0) [ true ↦ ends (e .lane) | false ↦ starts (e .lane) (e .velocity) ]
     go zero h = end-message (e .lane) (e .velocity) (w .lane-low)
     go (suc zero) h = start-message (e .lane) (e .velocity) (w .lane-low) (w .loud)
@@ -181,9 +179,9 @@ bytes-read : (e : NoteEvent) (s : List ℕ) (tick running q : ℕ) (rest : List 
     → behindTime s tick running q ≡ event (place (q + 3) tick (statusOf e)) (messageOf e)
 unfolding messageBytes statusOf
 bytes-read e s tick running q rest w f =
-    status-read (128 + e .kind * 16 + e .lane / 128) (e .lane % 128) (e .velocity) s tick running q rest (omega arith)
+    status-read (128 + e .kind * 16 + channelOf (e .lane)) (keyOf (e .lane)) (e .velocity) s tick running q rest (omega arith)
     (omega (arith, w .lane-low, w .kind-low)) (omega arith) (w .soft) f
-    ∙ ap (event (place (q + 3) tick (128 + e .kind * 16 + e .lane / 128))) (message-read e w)
+    ∙ ap (event (place (q + 3) tick (128 + e .kind * 16 + channelOf (e .lane)))) (message-read e w)
 
 -- An event behind its time.
 pub event-read : (e : NoteEvent) (d : ℕ) (s : List ℕ) (p : Place) (rest : List ℕ) → Writable e → d < 268435456

@@ -4,7 +4,7 @@ use mathlib.Core.Bool.{Bool, true, false, _&&_}
 use mathlib.Core.List.{List, [], _∷_, _++_, append-nil}
 use mathlib.Core.Logic.{_≢_}
 use mathlib.Core.Path.{_≡_, refl, sym, ap, _∙_}
-use Prim.Native.Nat.{ℕ, zero, suc, _+_, _-_, _*_, _/_, _≤_, _<_}
+use Prim.Native.Nat.{ℕ, zero, suc, _+_, _-_, _*_, _≤_, _<_}
 use native.Mathlib.Decide.{ℕ-discrete}
 use native.Mathlib.Nat.{lt-div-mul-add, div-lt-iff-lt-mul}
 use native.Mathlib.Omega.{arith}
@@ -44,7 +44,7 @@ use Rattle.midi.specs.Reading.{
   readFile,
 }
 use Rattle.midi.proofs.Branches.{by-test}
-use Rattle.midi.proofs.Legal.{Moves, InRange, Legal, legal}
+use Rattle.midi.proofs.Legal.{InRange, Legal, legal}
 use Rattle.midi.proofs.Playing.{laneNotes, noteAt}
 use Rattle.midi.proofs.Ranges.{Fits, fits-later, fits-ok}
 use Rattle.midi.proofs.Tables.{Shaped, shaped-new, put-shaped, lane-put, lane-other, lane-new}

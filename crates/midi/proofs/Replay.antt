@@ -1,8 +1,7 @@
 -- The run over a written track is the play of its events, one after the other. Assumes nothing.
-use mathlib.Core.Bool.{Bool, true, false}
 use mathlib.Core.List.{List, [], _∷_, _++_}
 use mathlib.Core.Path.{_≡_, refl, ap, _∙_}
-use Prim.Native.Nat.{ℕ, zero, suc, _+_, _-_, _*_, _≤_, _<_}
+use Prim.Native.Nat.{ℕ, zero, suc, _+_, _-_, _≤_, _<_}
 use native.Mathlib.Omega.{arith}
 use lib.ListN.{length, drop}
 use borrow.Author.Tests.{le-leb}
@@ -11,7 +10,7 @@ use Rattle.midi.specs.Numbers.{quantityBytes}
 use Rattle.midi.specs.Events.{Place, place, event, finished, eventAt}
 use Rattle.midi.specs.Sounding.{Sounding, Played, clash, played, play}
 use Rattle.midi.specs.Reading.{FileAnswer, refused, read, recorded, latest, after, run}
-use Rattle.midi.specs.Writing.{NoteEvent, messageBytes, endOfTrack, eventBytes}
+use Rattle.midi.specs.Writing.{NoteEvent, messageBytes, eventBytes}
 use Rattle.midi.proofs.ReadBack.{past, Writable, messageOf, statusOf, event-read, finish-read}
 
 -- A step, and what comes behind it.

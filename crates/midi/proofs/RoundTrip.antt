@@ -1,27 +1,32 @@
 -- A written file is read as the beats and notes that it was written from. Assumes nothing.
-use mathlib.Core.Bool.{Bool, true, false, _&&_}
+use mathlib.Core.Bool.{true}
 use mathlib.Core.List.{List, [], _∷_, _++_, append-nil}
 use mathlib.Core.Path.{_≡_, refl, ap, ap₂, _∙_}
-use Prim.Native.Nat.{ℕ, zero, suc, _+_, _-_, _*_, _/_, _%_, _≤_, _<_}
+use Prim.Native.Nat.{ℕ, suc, _+_, _-_, _*_, _/_, _%_, _≤_, _<_}
 use native.Mathlib.Nat.{mul-le-mul-right, mul-add-div-right, div-eq-of-lt, add-zero}
 use native.Mathlib.Omega.{arith}
-use lib.Dec.{leb, eqb}
-use lib.ListN.{length, take, drop, length-append}
+use lib.Dec.{eqb}
+use lib.ListN.{length, length-append}
 use lib.Seq.{take-length}
 use borrow.Author.Tests.{le-leb, eq-eqb, eqb-true}
-use Rattle.model.specs.Lists.{keep, gather}
-use Rattle.model.specs.Soundness.{notesOk}
-use Rattle.model.specs.Takes.{byLane}
+use Rattle.model.specs.Lists.{gather}
+use Rattle.model.specs.Soundness.{notesOk, soundShelf}
+use Rattle.model.specs.Takes.{byLane, word, notesIn, takeIn}
+use Rattle.model.specs.declared.Header.{Header}
 use Rattle.model.specs.declared.Note.{Note}
 use Rattle.laws.specs.Lists.{gather-count, gather-none}
 use Rattle.laws.specs.Notes.{Follow, ok-pairs}
+use Rattle.laws.specs.Order.{solid-notes}
+use Rattle.laws.specs.Sound.{sound-beats, sound-notes, sound-solid}
 use Rattle.laws.specs.Relations.{All, Pairs, all-imp, all-keep, all-kept, buckets, pairs-imp}
 use Rattle.midi.specs.Lanes.{laneAt}
 use Rattle.midi.specs.Numbers.{word32, quantityBytes}
 use Rattle.midi.specs.Events.{place}
 use Rattle.midi.specs.Sounding.{Sounding, silence, ended, endedLane, endedAll}
-use Rattle.midi.specs.Reading.{read, beatsOf, recorded, latest, readTrack, MTrk, chunkThere, track, trackFrom, headerThere, headerFits, readFile}
+use Rattle.midi.specs.Reading.{read, beatsOf, recorded, latest, readTrack, MTrk, chunkThere, track, headerThere, headerFits, readFile}
 use Rattle.midi.specs.Writing.{NoteEvent, eventsOf, inOrder, messageBytes, eventBytes, trackBytes, headerBytes, fileBytes}
+use Rattle.midi.proofs.Files.{track-read}
+use Rattle.midi.proofs.Loops.{trackAfter, chunk-step}
 use Rattle.midi.proofs.NoteEvents.{steps, lane-in-order}
 use Rattle.midi.proofs.Playing.{laneNotes, rests, Good, Before, Done, play-lanes}
 use Rattle.midi.proofs.Ranges.{Fits, follow-lane, ok-fits}
@@ -102,19 +107,12 @@ module _ (δ beats : ℕ) (notes : List Note) (positive : 1 ≤ δ) (small : δ 
 
 -- ---- the header and the chunk
 
-track-here : (fuel : ℕ) (s : List ℕ) (at n : ℕ) → 1 ≤ fuel → at + 8 + n ≤ length s → word32 s (at + 4) ≡ n → word32 s at ≡ MTrk
-    → trackFrom fuel s at ≡ track (at + 8) n
-unfolding trackFrom chunkThere
-track-here zero s at n z h e f = absurd (omega arith)
-track-here (suc fuel) s at n z h e f = rw (there, trackFrom, eq-eqb (word32 s at) MTrk f, e)
+track-here : (s : List ℕ) (at n : ℕ) → at + 8 + n ≤ length s → word32 s (at + 4) ≡ n → word32 s at ≡ MTrk → trackAfter s at ≡ track (at + 8) n
+unfolding chunkThere
+track-here s at n h e f = chunk-step s at (omega arith) ∙ rw (there, eq-eqb (word32 s at) MTrk f, e)
   where
     there : chunkThere s at ≡ true
     there = rw (le-leb (at + 8) (length s) (omega arith), chunkThere, e, le-leb (at + 8 + n) (length s) h)
-
-read-here : (δ : ℕ) (s : List ℕ) (at n : ℕ) → headerThere s ≡ true → headerFits δ s ≡ true → trackFrom (length s) s (8 + word32 s 4) ≡ track at n
-    → readFile δ s ≡ readTrack δ (take n (drop at s))
-unfolding readFile
-read-here δ s at n a b c = rw (a, readFile, b, c)
 
 module _ (δ : ℕ) (t : List ℕ) where
   abbrev file : List ℕ
@@ -128,13 +126,13 @@ module _ (δ : ℕ) (t : List ℕ) where
   unfolding headerFits headerBytes
   fits = rw (eq-eqb (δ / 256 * 256 + δ % 256) δ (omega arith))
 
-  at-track : trackFrom (length file) file 14 ≡ track 22 (length t)
+  at-track : trackAfter file 14 ≡ track 22 (length t)
   unfolding headerBytes
-  at-track = track-here (length file) file 14 (length t) (omega arith) (omega arith) (omega arith) refl
+  at-track = track-here file 14 (length t) (omega arith) (omega arith) refl
 
   file-track : readFile δ file ≡ readTrack δ t
   unfolding headerBytes
-  file-track = read-here δ file 22 (length t) there fits at-track ∙ ap (readTrack δ) (take-length t)
+  file-track = track-read δ file there fits 22 (length t) at-track ∙ ap (readTrack δ) (take-length t)
 
 -- ---- the file
 
@@ -142,3 +140,11 @@ pub round-trip : (δ beats : ℕ) (notes : List Note) → 1 ≤ δ → δ ≤ 32
     → readFile δ (fileBytes δ beats notes) ≡ read (record { beats = beats; notes = notes })
 unfolding fileBytes
 round-trip δ beats notes positive small short ok = file-track δ (trackBytes δ beats notes) ∙ track-back δ beats notes positive small short ok
+
+-- The file of a sound shelf is read as the shelf's beats and notes.
+pub shelf-round-trip : (H : Header) → 1 ≤ H .delta → H .delta ≤ 32767 → H .epsilon ≤ H .delta → (ws : List ℕ) → soundShelf H ws ≡ true
+    → readFile (H .delta) (fileBytes (H .delta) (word ws 0) (notesIn ws)) ≡ read (record { beats = word ws 0; notes = notesIn ws })
+unfolding takeIn
+shelf-round-trip H positive small le ws e =
+    round-trip (H .delta) (word ws 0) (notesIn ws) positive small (sound-beats H positive ws e)
+    (rw (sound-notes H positive ws e) at (solid-notes H positive le (takeIn (H .delta) ws) (sound-solid H positive ws e)))

@@ -1,15 +1,14 @@
 -- Sums over a list of notes: they do not depend on the order of lanes; and how many ticks the notes of all lanes take. Assumes nothing.
-use mathlib.Core.Bool.{Bool, true, false}
 use mathlib.Core.List.{List, [], _∷_, _++_}
 use mathlib.Core.Logic.{_≢_}
-use mathlib.Core.Path.{_≡_, refl, sym, ap, ap₂, _∙_}
+use mathlib.Core.Path.{_≡_, refl, sym, ap, _∙_}
 use Prim.Native.Nat.{ℕ, zero, suc, _+_, _-_, _*_, _≤_, _<_}
 use native.Mathlib.Decide.{ℕ-discrete}
 use native.Mathlib.Omega.{arith}
 use lib.Dec.{eqb}
 use lib.ListN.{length, length-append}
 use borrow.Author.Tests.{eq-eqb, ne-eqb}
-use Rattle.model.specs.Lists.{consIf, countFrom, gather}
+use Rattle.model.specs.Lists.{countFrom, gather}
 use Rattle.model.specs.Takes.{byLane, lanes}
 use Rattle.model.specs.declared.Note.{Note}
 use Rattle.laws.specs.Notes.{Follow}

@@ -5,7 +5,7 @@ use mathlib.Core.List.{List}
 use lib.Dec.{leb, ltb, eqb}
 use lib.ListN.{length, getD}
 use Rattle.midi.specs.Lanes.{laneOf}
-use Rattle.midi.specs.Numbers.{Quantity, noQuantity, quantity, quantityFrom, quantityAt}
+use Rattle.midi.specs.Numbers.{noQuantity, quantity, quantityFrom, quantityAt}
 
 -- Where reading stands: the position in the track, the tick of the last event, the running status in force (0: none).
 pub record Place : Type 0 where
