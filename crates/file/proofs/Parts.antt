@@ -11,14 +11,16 @@ use lib.ListN.{length, take, drop, length-drop}
 use lib.Seq.{take-all}
 use Rattle.words.specs.Splice.{splice}
 use Rattle.model.specs.Questions.{headerOk, firstNo}
-use Rattle.model.specs.Session.{headerOf, wordsOfHeader, shelf}
+use Rattle.model.specs.Session.{headerOf, wordsOfHeader, shelf, shelfAt}
 use Rattle.model.specs.Soundness.{soundShelf, notesOk}
 use Rattle.model.specs.Takes.{word, readNotes, notesIn}
 use Rattle.model.specs.declared.Header.{Header}
+use Rattle.model.proofs.Headers.{InRange, in-range}
 use Rattle.laws.specs.Clauses.{sound-chain}
 use Rattle.laws.specs.ChainSolid.{Parts, parts}
 use Rattle.midi.specs.Writing.{fileBytes}
 use Rattle.session.proofs.Entries.{Entered}
+use Rattle.session.proofs.Sources.{part-is, part-long}
 use Rattle.session.specs.Entering.{entryOf, entryAsked}
 use Rattle.session.specs.declared.header.Entry.the-variants as entries
 use Rattle.file.specs.Calls.{shelfFile, fileFits, writeQuestions, writeNumber, writeCount, writeOutput}
@@ -58,17 +60,17 @@ module _ (h : Header) (ws : List ℕ) (a : PartAsks h ws) where
 -- ---- the number, the count and the output
 
 abbrev pub Wrote : List ℕ → ℕ → List ℕ → ℕ → ℕ → List ℕ → Type 0
-Wrote s i out number count after = (number ≡ writeNumber s i (length out)) × (count ≡ writeCount s i (length out)) × (after ≡ writeOutput s i out)
+Wrote s i out number count after = (number ≡ writeNumber s i (length out)) × ((count ≡ writeCount s i (length out)) × (after ≡ writeOutput s i out))
 
 module _ (s : List ℕ) (i : ℕ) (out : List ℕ) where
   wrote-refused : (q : ℕ) → q ≡ writeNumber s i (length out) → 0 < q → Wrote s i out q 0 out
   unfolding writeCount writeOutput
   wrote-refused zero e more = absurd (omega arith)
-  wrote-refused (suc q) e more = (e, rw (writeCount, ← e), rw (writeOutput, ← e))
+  wrote-refused (suc q) e more = (e, (rw (writeCount, ← e), rw (writeOutput, ← e)))
 
   wrote-done : 0 ≡ writeNumber s i (length out) → {count : ℕ} {after : List ℕ} → count ≡ length (shelfFile s i) → after ≡ splice out 0 (shelfFile s i) → Wrote s i out 0 count after
   unfolding writeCount writeOutput
-  wrote-done e f g = (e, rw (writeCount, ← e) f, rw (writeOutput, ← e) g)
+  wrote-done e f g = (e, (rw (writeCount, ← e) f, rw (writeOutput, ← e) g))
 
 four : (a b c d : Bool) → firstNo ((1, a) ∷ (2, b) ∷ (4, c) ∷ (15, d) ∷ []) ≡ cond a (cond b (cond c (cond d 0 15) 4) 2) 1
 unfolding firstNo
@@ -131,7 +133,7 @@ module _ (s : List ℕ) (i : ℕ) (h : Header) (e : Entered s i h) (out : List �
     write-full z = go (leb (length file) (length out)) refl
       where
         go : (b : Bool) → leb (length file) (length out) ≡ b → Wrote s i out 15 0 after
-        go true x = absurd (not-suc-le-zero {n = 0} (omega (arith, z, file-some h (shelf h s i) a, counts ∙ rw x)))
+        go true x = let l : r ≡ length file = counts ∙ rw x in absurd (not-suc-le-zero {n = 0} (omega (arith, z, l, file-some h (shelf h s i) a)))
         go false x = let l : after ≡ out = leaves ∙ rw x in rw l (wrote-refused s i out 15 (sym (sound-number ∙ rw x)) (omega arith))
 
     pub write-done : (r ≡ 0 → ⊥) → Wrote s i out 0 r after
@@ -140,3 +142,24 @@ module _ (s : List ℕ) (i : ℕ) (h : Header) (e : Entered s i h) (out : List �
         go : (b : Bool) → leb (length file) (length out) ≡ b → Wrote s i out 0 r after
         go true x = wrote-done s i out (sym (sound-number ∙ rw x)) (counts ∙ rw x (ap length file-same)) (leaves ∙ rw x (ap (splice out 0) file-same))
         go false x = absurd (d (counts ∙ rw x))
+
+-- ---- the part of the session that the shelf is
+
+pub entered-range : {s : List ℕ} {i : ℕ} {h : Header} → Entered s i h → InRange h (length s)
+entered-range {s} e = in-range (ap (λ (g : Header). headerOk g (length s)) (e .same) ∙ e .header)
+
+pub entered-below : {s : List ℕ} {i : ℕ} {h : Header} → Entered s i h → i < h .shelves
+entered-below e = omega (arith, e .below, ap (λ (g : Header). g .shelves) (e .same))
+
+module _ (h : Header) (s : List ℕ) (i : ℕ) (range : InRange h (length s)) (below-K : i < h .shelves) {at : ℕ} (place : at ≡ shelfAt h i) where
+  pub part-asks : {o : Bool} → o ≡ soundShelf h (take (at + h .words - at) (drop at s)) → not o ≡ false → PartAsks h (take (at + h .words - at) (drop at s))
+  part-asks {o} e t =
+      record { some-ticks = range .some-ticks; few-ticks = range .few-ticks; small = range .small; whole = part-long h s i range below-K place; sound = sym e ∙ not-false o t }
+
+  pub part-sound : {o : Bool} → o ≡ soundShelf h (take (at + h .words - at) (drop at s)) → not o ≡ false → PartAsks h (shelf h s i)
+  part-sound e t = rw (part-is h s i range below-K place) at (part-asks e t)
+
+  pub part-wrote : (out : List ℕ) {r : ℕ} {after : List ℕ}
+      → (r ≡ countOf (fileIn h (take (at + h .words - at) (drop at s))) out) × (after ≡ outputOf (fileIn h (take (at + h .words - at) (drop at s))) out)
+      → (r ≡ countOf (fileIn h (shelf h s i)) out) × (after ≡ outputOf (fileIn h (shelf h s i)) out)
+  part-wrote out w = rw (part-is h s i range below-K place) at w
