@@ -25,6 +25,7 @@ unsafe extern "C" {
         left: u32,
         right: u32,
     ) -> u32;
+    fn take_join(session: *mut u32, words: usize, first: u32, second: u32, result: u32) -> u32;
 }
 
 pub fn open(session: &mut [u32], header: [u32; 4]) -> u32 {
@@ -43,4 +44,9 @@ pub fn lay(session: &mut [u32], shelf: u32, beats: u32, notes: &[u32]) -> u32 {
 pub fn split(session: &mut [u32], take: u32, beat: u32, left: u32, right: u32) -> u32 {
     // SAFETY: pointer and length are those of a lent slice.
     unsafe { take_split(session.as_mut_ptr(), session.len(), take, beat, left, right) }
+}
+
+pub fn join(session: &mut [u32], first: u32, second: u32, result: u32) -> u32 {
+    // SAFETY: pointer and length are those of a lent slice.
+    unsafe { take_join(session.as_mut_ptr(), session.len(), first, second, result) }
 }
