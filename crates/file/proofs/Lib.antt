@@ -4,3 +4,6 @@ pub mod EventLoops
 pub mod Shelves
 pub mod Written
 pub mod Parts
+pub mod ChunkLoops
+pub mod Tallies
+pub mod FirstPass

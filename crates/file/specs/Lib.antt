@@ -1,4 +1,6 @@
--- What load and write mean; the track and the file as the code writes them.
+-- What load and write mean; the track and the file as the code writes them; what the code reads and counts.
 pub mod Calls
 pub mod Tracks
 pub mod Files
+pub mod Chunks
+pub mod Counting
