@@ -7,3 +7,6 @@ pub mod Parts
 pub mod ChunkLoops
 pub mod Tallies
 pub mod FirstPass
+pub mod Places
+pub mod Replays
+pub mod PlacingLoop

@@ -2,6 +2,7 @@
 pub mod chunks;
 pub mod counting;
 pub mod files;
+pub mod placing;
 pub mod sounding;
 pub mod tracks;
 pub mod writing;
