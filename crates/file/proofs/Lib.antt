@@ -10,3 +10,5 @@ pub mod FirstPass
 pub mod Places
 pub mod Replays
 pub mod PlacingLoop
+pub mod LaidRecordings
+pub mod Loads

@@ -1,7 +1,8 @@
-// The calls on files, exported to C: write; and what load reads.
+// The calls on files, exported to C: load and write.
 pub mod chunks;
 pub mod counting;
 pub mod files;
+pub mod loading;
 pub mod placing;
 pub mod sounding;
 pub mod tracks;
