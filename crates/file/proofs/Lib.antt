@@ -7,3 +7,4 @@ pub mod Parts
 pub mod ChunkLoops
 pub mod Tallies
 pub mod FirstPass
+pub mod Answers
