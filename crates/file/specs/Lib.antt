@@ -4,3 +4,4 @@ pub mod Tracks
 pub mod Files
 pub mod Chunks
 pub mod Counting
+pub mod CountingSteps
