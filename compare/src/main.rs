@@ -6,89 +6,20 @@
 mod engine;
 mod guarded;
 mod inputs;
+mod joins;
+mod pair;
+mod writes;
 
-use guarded::Guarded;
+use joins::Broken;
+use pair::{Counts, Pair};
 use reference::random::Random;
 use std::process::ExitCode;
 
-/// How many calls gave each number.
-#[derive(Default)]
-struct Counts {
-    open: [u64; 2],
-    lay: [u64; 9],
-    split: [u64; 6],
-}
+/// How many rounds there are where none are named.
+const ROUNDS: u64 = 20_000;
 
-/// A session in both implementations.
-struct Pair {
-    proved: Guarded,
-    second: Vec<u32>,
-}
-
-impl Pair {
-    fn new(words: Vec<u32>) -> Self {
-        Pair { proved: Guarded::new(&words), second: words }
-    }
-
-    fn set(&mut self, place: usize, word: u32) {
-        self.proved.words_mut()[place] = word;
-        self.second[place] = word;
-    }
-
-    fn open(&mut self, header: [u32; 4], counts: &mut Counts) -> Result<u32, String> {
-        let [delta, epsilon, shelves, shelf_words] = header;
-        let number = engine::open(self.proved.words_mut(), header);
-        let expected = reference::open(&mut self.second, delta, epsilon, shelves, shelf_words);
-        if number != expected || !self.proved.holds(&self.second) {
-            return Err(format!("open {header:?}: {number}, expected {expected}"));
-        }
-        counts.open[number as usize] += 1;
-        Ok(number)
-    }
-
-    fn lay(
-        &mut self,
-        shelf: u32,
-        beats: u32,
-        list: &[u32],
-        counts: &mut Counts,
-    ) -> Result<u32, String> {
-        let notes = Guarded::new(list);
-        let number = engine::lay(self.proved.words_mut(), shelf, beats, notes.words());
-        let expected = reference::lay(&mut self.second, shelf, beats, list);
-        if number != expected || !self.proved.holds(&self.second) || !notes.holds(list) {
-            return Err(format!("lay {shelf} {beats} {list:?}: {number}, expected {expected}"));
-        }
-        counts.lay[number as usize] += 1;
-        Ok(number)
-    }
-
-    fn split(
-        &mut self,
-        take: u32,
-        beat: u32,
-        left: u32,
-        right: u32,
-        counts: &mut Counts,
-    ) -> Result<u32, String> {
-        let number = engine::split(self.proved.words_mut(), take, beat, left, right);
-        let expected = reference::split(&mut self.second, take, beat, left, right);
-        if number != expected || !self.proved.holds(&self.second) {
-            return Err(format!(
-                "split {take} {beat} {left} {right}: {number}, expected {expected}"
-            ));
-        }
-        counts.split[number as usize] += 1;
-        Ok(number)
-    }
-
-    /// A join by the second implementation alone, for takes of several
-    /// recordings.
-    fn join(&mut self, first: u32, second: u32, result: u32) {
-        reference::join(&mut self.second, first, second, result);
-        self.proved.words_mut().copy_from_slice(&self.second);
-    }
-}
+/// The clauses that make a shelf sound.
+const CLAUSES: usize = 13;
 
 /// An open on any words, then lays, with the header damaged now and then.
 fn any_session(random: &mut Random, counts: &mut Counts) -> Result<(), String> {
@@ -140,9 +71,24 @@ fn just_fitting(random: &mut Random, counts: &mut Counts) -> Result<(), String> 
     Ok(())
 }
 
+/// A join, or a split.
+fn cut(random: &mut Random, pair: &mut Pair, kind: u32, counts: &mut Counts) -> Result<(), String> {
+    let [take, left, right] = inputs::shelves(random);
+    if kind == 1 {
+        let second = if random.one_in(4) { take } else { left };
+        pair.join(take, second, right, counts)?;
+        return Ok(());
+    }
+    let first = 4 + u64::from(take) * u64::from(pair.second[3]);
+    let beats = pair.second.get(first as usize).copied().unwrap_or(0);
+    let beat = random.below(beats.min(40) + 2);
+    pair.split(take, beat, left, right, counts)?;
+    Ok(())
+}
+
 /// Lays, joins and splits in one session, any of its words damaged now and
-/// then for one split.
-fn splits(random: &mut Random, counts: &mut Counts) -> Result<(), String> {
+/// then for one join or split.
+fn cuts(random: &mut Random, counts: &mut Counts) -> Result<(), String> {
     let delta = random.pick(&[1, 2, 3, 10, 480]);
     let header = [delta, random.between(1, delta), 5, random.between(3, 500)];
     let length = 4 + 5 * header[3] as usize;
@@ -155,18 +101,13 @@ fn splits(random: &mut Random, counts: &mut Counts) -> Result<(), String> {
                 let list = inputs::list(random, header, beats);
                 pair.lay(random.below(5), beats, &list, counts)?;
             }
-            1 => pair.join(random.below(5), random.below(5), random.below(5)),
-            _ => {
+            kind => {
                 let place = inputs::place(random, header);
                 let damaged = random.one_in(4).then(|| pair.second[place]);
                 if let Some(word) = damaged {
                     pair.set(place, inputs::damaged(random, word));
                 }
-                let [take, left, right] = inputs::shelves(random);
-                let first = 4 + u64::from(take) * u64::from(header[3]);
-                let beats = pair.second.get(first as usize).copied().unwrap_or(0);
-                let beat = random.below(beats.min(40) + 2);
-                pair.split(take, beat, left, right, counts)?;
+                cut(random, &mut pair, kind, counts)?;
                 if let Some(word) = damaged {
                     pair.set(place, word);
                 }
@@ -176,20 +117,49 @@ fn splits(random: &mut Random, counts: &mut Counts) -> Result<(), String> {
     Ok(())
 }
 
-fn compare(rounds: u64) -> Result<Counts, String> {
-    let mut counts = Counts::default();
-    for round in 0..rounds {
-        let mut random = Random::new(round);
-        any_session(&mut random, &mut counts).map_err(|what| format!("round {round}: {what}"))?;
-        just_fitting(&mut random, &mut counts).map_err(|what| format!("round {round}: {what}"))?;
-        splits(&mut random, &mut counts).map_err(|what| format!("round {round}: {what}"))?;
+/// One round of each kind; the long lists of calls in every fiftieth.
+fn one_round(round: u64, counts: &mut Counts, seen: &mut Broken) -> Result<(), String> {
+    let random = &mut Random::new(round);
+    any_session(random, counts)?;
+    just_fitting(random, counts)?;
+    cuts(random, counts)?;
+    joins::just_fitting(random, counts)?;
+    joins::free_takes(random, counts)?;
+    joins::broken_shelves(random, counts, seen)?;
+    joins::random_words(random, counts)?;
+    writes::around_the_length(random, counts)?;
+    writes::damaged(random, counts)?;
+    if round % 500 == 0 {
+        writes::at_the_limits(random, counts)?;
     }
-    Ok(counts)
+    if round % 50 == 0 {
+        joins::long_list(random, counts)?;
+    }
+    Ok(())
+}
+
+fn compare(rounds: u64) -> Result<(Counts, Broken), String> {
+    let (mut counts, mut seen) = (Counts::default(), Broken::default());
+    for round in 0..rounds {
+        one_round(round, &mut counts, &mut seen)
+            .map_err(|what| format!("round {round}: {what}"))?;
+    }
+    Ok((counts, seen))
+}
+
+/// What all rounds must have met: joins and writes with every number that they
+/// can give, and each clause of soundness broken alone.
+fn has_met_all(counts: &Counts, seen: &Broken) -> bool {
+    let joins = [0, 1, 2, 3, 4, 6, 8];
+    let writes = [0, 1, 2, 4, 15];
+    joins.iter().all(|&number| counts.join[number] > 0)
+        && writes.iter().all(|&number| counts.write[number] > 0)
+        && seen.alone.len() == CLAUSES
 }
 
 fn main() -> ExitCode {
     let rounds = match std::env::args().nth(1).map(|word| word.parse()) {
-        None => 20_000,
+        None => ROUNDS,
         Some(Ok(rounds)) => rounds,
         Some(Err(_)) => {
             eprintln!("usage: compare [ROUNDS]");
@@ -197,10 +167,16 @@ fn main() -> ExitCode {
         }
     };
     match compare(rounds) {
-        Ok(counts) => {
-            let Counts { open, lay, split } = counts;
-            let calls: u64 = open.iter().chain(&lay).chain(&split).sum();
-            println!("{calls} calls agree; open by number {open:?}, lay {lay:?}, split {split:?}");
+        Ok((counts, seen)) if rounds >= ROUNDS && !has_met_all(&counts, &seen) => {
+            eprintln!("too little was met: joins {:?}, alone {:?}", counts.join, seen.alone);
+            ExitCode::FAILURE
+        }
+        Ok((counts, seen)) => {
+            let Counts { open, lay, split, join, write } = counts;
+            let calls: u64 = open.iter().chain(&lay).chain(&split).chain(&join).chain(&write).sum();
+            println!("{calls} calls agree; by number: open {open:?}, lay {lay:?}, split {split:?}, join {join:?}, write {write:?}");
+            let (alone, pairs) = (seen.alone.len(), seen.pairs.len());
+            println!("joins refused for {alone} clauses broken alone and {pairs} pairs of them");
             ExitCode::SUCCESS
         }
         Err(what) => {

@@ -65,14 +65,15 @@ asked-asks entered = let range = in-range (entered .header) in rw (entered .same
 
 -- ---- the number
 
-five : (a b c d e : Bool) → firstNo ((1, a) ∷ (2, b) ∷ (6, c) ∷ (7, d) ∷ (8, e) ∷ []) ≡ cond a (cond b (cond c (cond d (cond e 0 8) 7) 6) 2) 1
+-- five questions by their numbers
+pub five : (m n o p q : ℕ) (a b c d e : Bool) → firstNo ((m, a) ∷ (n, b) ∷ (o, c) ∷ (p, d) ∷ (q, e) ∷ []) ≡ cond a (cond b (cond c (cond d (cond e 0 q) p) o) n) m
 unfolding firstNo
-five true true true true true = refl
-five true true true true false = refl
-five true true true false e = refl
-five true true false d e = refl
-five true false c d e = refl
-five false b c d e = refl
+five m n o p q true true true true true = refl
+five m n o p q true true true true false = refl
+five m n o p q true true true false e = refl
+five m n o p q true true false d e = refl
+five m n o p q true false c d e = refl
+five m n o p q false b c d e = refl
 
 module _ (s : List ℕ) (i beats : ℕ) (ws : List ℕ) where
   abbrev h : Header
@@ -95,7 +96,7 @@ module _ (s : List ℕ) (i beats : ℕ) (ws : List ℕ) where
   unfolding number questions
   number-is =
       rw (q2, q6, q8)
-      (five (headerOk h (length s)) (ltb i (h .shelves)) (leb beats maxBeats) (listOk h beats ws) (fits h (recordingTake (h .delta) (listed beats ws))))
+      (five 1 2 6 7 8 (headerOk h (length s)) (ltb i (h .shelves)) (leb beats maxBeats) (listOk h beats ws) (fits h (recordingTake (h .delta) (listed beats ws))))
 
   -- ---- questions 6, 7 and 8
 

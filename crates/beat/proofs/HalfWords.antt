@@ -11,12 +11,11 @@ use lib.Dec.{leb, ltb}
 use lib.ListN.{length, getD, drop}
 use lib.Seq.{getD-drop, getD-take}
 use Rattle.words.specs.Apart.{Apart, Apart.ahead, Apart.behind, apart-swap, apart-within}
-use Rattle.words.specs.Parts.{Same, splice-same}
 use Rattle.words.specs.Splice.{splice, length-splice}
 use Rattle.model.specs.Lists.{consIf, gather, keep}
 use Rattle.model.specs.Limits.{maxShelves, maxWords}
 use Rattle.model.specs.Session.{shelf, shelfAt}
-use Rattle.model.specs.Takes.{Take, noteWords, cellWords, wordsUsed, word, notesIn, takeIn, notesOf, wordsOf, shelfWords, splitLeft, splitRight}
+use Rattle.model.specs.Takes.{Take, noteWords, wordsUsed, word, notesIn, takeIn, notesOf, wordsOf, splitLeft, splitRight}
 use Rattle.model.specs.Questions.{fits, takeAt}
 use Rattle.model.specs.declared.Header.{Header}
 use Rattle.model.specs.declared.Cell.{Cell}
@@ -27,12 +26,13 @@ use Rattle.laws.specs.Halves.{left-pass, right-pass, left-half-cells, right-hal
 use Rattle.laws.specs.Sound.{sound-solid, sound-notes, sound-used}
 use Rattle.session.specs.Framing.{framed}
 use Rattle.session.specs.Reading.{lastNotes, lastCells}
-use Rattle.session.proofs.Frames.{shelf-framed, length-notes}
 use Rattle.beat.specs.declared.halves.Half.{Half}
 use Rattle.beat.specs.declared.halves.Contents.{Contents}
 use Rattle.beat.specs.Making.{Made}
 use Rattle.beat.specs.Halving.{halfOf, noteParts, cellPart, contentsAt, maxSession, notesLeft, cellsLeft, Noted, Placed, NotesAsks, CellsAsks, HalfAsks}
 use Rattle.beat.proofs.Passes.{notes-agree, cells-agree, parts-right, parts-left}
+use Rattle.beat.proofs.TakeWords as words
+use Rattle.beat.proofs.TakeWords.{Counted, cells-still, take-room}
 
 -- ---- two shelves
 
@@ -173,8 +173,7 @@ module _ {s : List ℕ} {h : Header} {v : Half} {i j : ℕ} (a : HalfAsks s h v 
       go false e = rw e (and-left (fits h (splitLeft (h .delta) (v .beat) t)) (fits h (splitRight (h .delta) (v .beat) t)) both)
 
   pub room : 3 + 4 * length (notesOf h half) + 6 * length (half .cells) ≤ h .words
-  unfolding fits
-  room = leb-true _ _ half-fits
+  room = take-room h half half-fits
 
   -- ---- what the functions ask
 
@@ -214,67 +213,34 @@ module _ {s : List ℕ} {h : Header} {v : Half} {i j : ℕ} (a : HalfAsks s h v 
       notes-asks = record { half = a .half; placed = placed s refl (at + 3) _ (omega arith) (omega (arith, ap length notes-left, room)) }
 
       module _ {s₁ : List ℕ} {middle : ℕ} (noted : Noted s (at + 3) (notesLeft h v s from (from .notes) (from .cells)) s₁ middle) where
-        long₁ : length s₁ ≡ length s
-        long₁ = ap length (noted .words) ∙ length-splice s (at + 3) (gather noteWords (notesLeft h v s from (from .notes) (from .cells)))
+        notes-put : Noted s (at + 3) (notesOf h half) s₁ middle
+        notes-put = rw notes-left at noted
 
-        middle-at : middle ≡ at + 3 + 4 * length (notesOf h half)
-        middle-at = noted .behind ∙ rw notes-left
+        long₁ : length s₁ ≡ length s
+        long₁ = ap length (notes-put .words) ∙ length-splice s (at + 3) (gather noteWords (notesOf h half))
 
         -- the cells are as they were
-        cells-still : lastCells s₁ (from .end) (from .cells) ≡ lastCells s (from .end) (from .cells)
-        cells-still =
-            let p = notes-asks .placed in
-            let same : Same s₁ s (p .low) (from .end - p .low) =
-            rw (noted .words) (splice-same s (at + 3) (gather noteWords (notesLeft h v s from (from .notes) (from .cells))) (p .apart) (omega (arith, length-notes (notesLeft h v s from (from .notes) (from .cells))))) in
-            cells-agree s₁ s (from .end) (from .end) (from .cells) (omega (arith, p .cells-in)) (omega (arith, p .cells-in))
-            (λ k pos upto. same .at (from .end - k) (omega (arith, p .cells-in)) (omega (arith, p .cells-in)))
-
         cells-left₁ : cellsLeft v s₁ from (from .cells) ≡ half .cells
         unfolding cellsLeft
-        cells-left₁ = rw cells-still cells-left
+        cells-left₁ = rw (cells-still (notesLeft h v s from (from .notes) (from .cells)) (notes-asks .placed) noted) cells-left
 
         pub cells-asks : CellsAsks s₁ middle v from
-        cells-asks = record { placed = placed s₁ long₁ middle _ (omega (arith, middle-at)) (omega (arith, middle-at, ap length cells-left₁, room)) }
+        cells-asks =
+            record { placed = placed s₁ long₁ middle _ (omega (arith, notes-put .behind)) (omega (arith, notes-put .behind, ap length cells-left₁, room)) }
 
         module _ {s₂ : List ℕ} {end : ℕ} (made : Made s₁ middle (cellsLeft v s₁ from (from .cells)) s₂ end) where
-          end-at : end ≡ middle + 6 * length (half .cells)
-          end-at = made .behind ∙ rw cells-left₁
+          cells-put : Made s₁ middle (half .cells) s₂ end
+          cells-put = rw cells-left₁ at made
 
-          long₂ : length s₂ ≡ length s
-          long₂ = ap length (made .words) ∙ length-splice s₁ middle (gather cellWords (cellsLeft v s₁ from (from .cells))) ∙ long₁
+          inside : at + h .words ≤ length s
+          inside = omega (arith, target-inside, place)
 
-          -- the counts, in words
-          pub record Counted : Type 0 where
-            pub notes-low : at + 3 ≤ middle
-            pub cells-low : middle ≤ end
-            pub notes-count : (middle - (at + 3)) / 4 ≡ length (notesOf h half)
-            pub cells-count : (end - middle) / 6 ≡ length (half .cells)
-            pub notes-few : length (notesOf h half) ≤ maxWords
-            pub cells-few : length (half .cells) ≤ maxWords
-
-          pub counted : Counted
-          counted =
-              record {
-                notes-low = omega (arith, middle-at);
-                cells-low = omega (arith, end-at);
-                notes-count = omega (arith, middle-at);
-                cells-count = omega (arith, end-at);
-                notes-few = omega (arith, room, range .small);
-                cells-few = omega (arith, room, range .small);
-              }
+          pub counted : Counted h half at middle end
+          counted = words.counted h half (range .small) half-fits at inside notes-put cells-put
 
           pub frame-asks : (at + h .words ≤ length s₂) × (wordsUsed ((middle - (at + 3)) / 4) ((end - middle) / 6) ≤ h .words)
-          frame-asks = (omega (arith, long₂, target-inside, place), rw (counted .notes-count, counted .cells-count) room)
+          frame-asks = words.frame-asks h half (range .small) half-fits at inside notes-put cells-put
 
           pub half-put : {s₃ : List ℕ} → s₃ ≡ framed s₂ at (h .words) (v .beats) ((middle - (at + 3)) / 4) ((end - middle) / 6)
               → s₃ ≡ splice s (shelfAt h j) (wordsOf h half)
-          unfolding wordsOf
-          half-put e =
-              let ns = notesOf h half in
-              let cs = half .cells in
-              let s' = splice (splice s (at + 3) (gather noteWords ns)) (at + 3 + 4 * length ns) (gather cellWords cs) in
-              let parts : framed s₂ at (h .words) (v .beats) ((middle - (at + 3)) / 4) ((end - middle) / 6) ≡ framed s' at (h .words) (v .beats) (length ns) (length cs) =
-              rw (counted .notes-count, counted .cells-count, made .words, cells-left₁, noted .words, notes-left, middle-at) in
-              let beats : framed s' at (h .words) (v .beats) (length ns) (length cs) ≡ framed s' at (h .words) (half .beats) (length ns) (length cs) =
-              ap (λ (b : ℕ). framed s' at (h .words) b (length ns) (length cs)) (a .beats-are) in
-              e ∙ parts ∙ beats ∙ shelf-framed s at (h .words) (half .beats) ns cs ∙ ap (λ (x : ℕ). splice s x (shelfWords (h .words) (half .beats) ns cs)) place
+          half-put e = words.take-put h half (range .small) half-fits at inside notes-put cells-put (a .beats-are) e ∙ ap (λ (x : ℕ). splice s x (wordsOf h half)) place

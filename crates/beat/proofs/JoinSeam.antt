@@ -16,9 +16,9 @@ use Rattle.model.specs.Takes.{noteWords}
 use Rattle.model.specs.declared.Header.{Header}
 use Rattle.model.specs.declared.Note.{Note}
 use Rattle.model.specs.declared.Cell.{Cell}
-use Rattle.laws.specs.JoinWalk.{runOf, restOf, laneAhead, leastLane, noteRun, noteRest, cellRest}
+use Rattle.laws.specs.JoinWalk.{runOf, restOf, laneAhead, leastLane, noteRun, noteRest, cellRun, cellRest}
 use Rattle.laws.specs.Relations.{All}
-use Rattle.laws.specs.Seam.{boundAt, firstOr, endingAt, startingAt0, upTo, fromOn, joinOver}
+use Rattle.laws.specs.Seam.{boundAt, endingAt, startingAt0, upTo, fromOn, joinOver}
 use Rattle.laws.specs.SeamWalk.{lastOr, noteLater}
 use Rattle.session.specs.Reading.{noteAt, cellAt, lastNotes, lastCells}
 use Rattle.session.proofs.Lasts.{no-notes, no-cells, last-notes, last-cells}
@@ -68,7 +68,7 @@ module _ {A : Type 0} (lane : A → ℕ) (l : ℕ) where
 
 -- ---- the last notes
 
-all-last-notes : (P : Note → Type 0) (s : List ℕ) (end k j : ℕ) → j ≤ k → 4 * k ≤ end → All P (lastNotes s end k) → All P (lastNotes s end j)
+pub all-last-notes : (P : Note → Type 0) (s : List ℕ) (end k j : ℕ) → j ≤ k → 4 * k ≤ end → All P (lastNotes s end k) → All P (lastNotes s end j)
 all-last-notes P s end zero j h fits a = let z : j ≡ 0 = omega arith in rw z a
 all-last-notes P s end (suc k) j h fits a = go (leb j k) refl (λ few. all-last-notes P s end k j few (omega arith) tail)
   where
@@ -229,50 +229,59 @@ module _ (h : Header) (k : ℕ) (c d : Cell) where
 
 -- ---- the note that goes over the line
 
-nothing : (ns : List Note) → length ns ≡ 0 → ns ≡ []
+pub nothing : {A : Type 0} (xs : List A) → length xs ≡ 0 → xs ≡ []
 nothing [] e = refl
-nothing (n ∷ ns) e = absurd (omega arith)
+nothing (x ∷ xs) e = absurd (omega arith)
 
 either : {A : Type 0} (b : Bool) (x : A) → x ≡ cond b x x
 either true x = refl
 either false x = refl
 
--- the last note of the lane in front stands before those that are left
-last-of-run : (s : List ℕ) (lane end : ℕ) (d : Note) (left r : ℕ) → 4 * left ≤ end → left ≡ r + length (noteRun lane (lastNotes s end left)) → r < left
+-- last k are k elements, the first of which is at k
+module _ {A : Type 0} (lane : A → ℕ) (l : ℕ) (last : ℕ → List A) (at : ℕ → A) (top : ℕ) (first : (k : ℕ) → 0 < k → k ≤ top → last k ≡ at k ∷ last (k - 1)) where
+  -- the last of the lane in front stands before those that are left
+  pub last-of-run : (d : A) (left r : ℕ) → left ≤ top → left ≡ r + length (runOf lane l (last left)) → r < left → lastOr d (runOf lane l (last left)) ≡ at (r + 1)
+  last-of-run d zero r fits count less = absurd (omega arith)
+  last-of-run d (suc k) r fits count less = by (eqb (lane x) l) refl (λ e f. last-of-run x k r (omega arith) e f)
+    where
+      x : A
+      x = at (suc k)
+
+      xs : List A
+      xs = last k
+
+      begins : last (suc k) ≡ x ∷ xs
+      begins = let one : suc k - 1 ≡ k = omega arith in first (suc k) (omega arith) fits ∙ rw one
+
+      by : (b : Bool) → eqb (lane x) l ≡ b → (k ≡ r + length (runOf lane l xs) → r < k → lastOr x (runOf lane l xs) ≡ at (r + 1))
+          → lastOr d (runOf lane l (last (suc k))) ≡ at (r + 1)
+      by true e ih = rw run (here (leb (suc r) k) refl)
+        where
+          run : runOf lane l (last (suc k)) ≡ x ∷ runOf lane l xs
+          run = ap (runOf lane l) begins ∙ run-go lane l x xs (eqb-true (lane x) l e)
+
+          counted : k ≡ r + length (runOf lane l xs)
+          counted = omega (arith, count, ap length run)
+
+          here : (b : Bool) → leb (suc r) k ≡ b → lastOr x (runOf lane l xs) ≡ at (r + 1)
+          here true f = ih counted (leb-true (suc r) k f)
+          here false f =
+              let is : r + 1 ≡ suc k = omega (arith, leb-false (suc r) k f, less) in
+              let none : runOf lane l xs ≡ [] = nothing (runOf lane l xs) (omega (arith, counted)) in
+              ap (lastOr x) none ∙ ap at (sym is)
+      by false e ih =
+          let run : runOf lane l (last (suc k)) ≡ [] = ap (runOf lane l) begins ∙ run-stop lane l x xs (λ f. true≢false (sym (eq-eqb (lane x) l f) ∙ e)) in
+          absurd (omega (arith, count, ap length run, less))
+
+last-note : (s : List ℕ) (lane end : ℕ) (d : Note) (left r : ℕ) → 4 * left ≤ end → left ≡ r + length (noteRun lane (lastNotes s end left)) → r < left
     → lastOr d (noteRun lane (lastNotes s end left)) ≡ noteAt s (end - 4 * (r + 1))
-last-of-run s lane end d zero r fits count less = absurd (omega arith)
-last-of-run s lane end d (suc k) r fits count less =
-    by (eqb (n .lane) lane) refl (λ e f. last-of-run s lane end n k r (omega arith) e f)
-  where
-    n : Note
-    n = noteAt s (end - 4 * suc k)
+last-note s lane end d left r fits =
+    last-of-run (λ n. n .lane) lane (lastNotes s end) (λ k. noteAt s (end - 4 * k)) left (λ k more few. last-notes s end k more (omega arith)) d left r (omega arith)
 
-    ns : List Note
-    ns = lastNotes s end k
-
-    first : lastNotes s end (suc k) ≡ n ∷ ns
-    first = let one : suc k - 1 ≡ k = omega arith in last-notes s end (suc k) (omega arith) fits ∙ rw one
-
-    by : (b : Bool) → eqb (n .lane) lane ≡ b → (k ≡ r + length (noteRun lane ns) → r < k → lastOr n (noteRun lane ns) ≡ noteAt s (end - 4 * (r + 1)))
-        → lastOr d (noteRun lane (lastNotes s end (suc k))) ≡ noteAt s (end - 4 * (r + 1))
-    by true e ih = rw run (here (leb (suc r) k) refl)
-      where
-        run : noteRun lane (lastNotes s end (suc k)) ≡ n ∷ noteRun lane ns
-        run = ap (noteRun lane) first ∙ run-go (λ n. n .lane) lane n ns (eqb-true (n .lane) lane e)
-
-        counted : k ≡ r + length (noteRun lane ns)
-        counted = omega (arith, count, ap length run)
-
-        here : (b : Bool) → leb (suc r) k ≡ b → lastOr n (noteRun lane ns) ≡ noteAt s (end - 4 * (r + 1))
-        here true f = ih counted (leb-true (suc r) k f)
-        here false f =
-            let is : r ≡ k = omega (arith, leb-false (suc r) k f, less) in
-            let none : noteRun lane ns ≡ [] = nothing (noteRun lane ns) (omega (arith, counted)) in
-            let place : end - 4 * (r + 1) ≡ end - 4 * suc k = omega arith in
-            ap (lastOr n) none ∙ ap (noteAt s) (sym place)
-    by false e ih =
-        let run : noteRun lane (lastNotes s end (suc k)) ≡ [] = ap (noteRun lane) first ∙ run-stop (λ n. n .lane) lane n ns (λ f. true≢false (sym (eq-eqb (n .lane) lane f) ∙ e)) in
-        absurd (omega (arith, count, ap length run, less))
+pub last-cell : (s : List ℕ) (lane end : ℕ) (d : Cell) (left r : ℕ) → 6 * left ≤ end → left ≡ r + length (cellRun lane (lastCells s end left)) → r < left
+    → lastOr d (cellRun lane (lastCells s end left)) ≡ cellAt s (end - 6 * (r + 1))
+last-cell s lane end d left r fits =
+    last-of-run (λ c. c .lane) lane (lastCells s end) (λ k. cellAt s (end - 6 * k)) left (λ k more few. last-cells s end k more (omega arith)) d left r (omega arith)
 
 module _ {s : List ℕ} {end left r : ℕ} (h : Header) (line : ℕ) (c : Cell) (a : RunRead s (c .lane) end left r) where
   pub up-none : r ≡ left → endingAt line c ≡ upTo h line c (noteRun (c .lane) (lastNotes s end left))
@@ -289,7 +298,7 @@ module _ {s : List ℕ} {end left r : ℕ} (h : Header) (line : ℕ) (c : Cell) 
       up-inside = (omega (arith, a .count, a .notes-in), omega (arith, a .count, a .notes-in, a .inside))
 
       pub up-last : b ≡ true → {n : Note} → n ≡ noteAt s (end - 4 * (r + 1)) → n ≡ upTo h line c (noteRun (c .lane) (lastNotes s end left))
-      up-last e f = rw (sym is ∙ e) (f ∙ sym (last-of-run s (c .lane) end (endingAt line c) left r (a .notes-in) (a .count) (omega (arith, a .count))))
+      up-last e f = rw (sym is ∙ e) (f ∙ sym (last-note s (c .lane) end (endingAt line c) left r (a .notes-in) (a .count) (omega (arith, a .count))))
 
 module _ (s : List ℕ) (end left : ℕ) (h : Header) (d : Cell) where
   abbrev ahead : List Note

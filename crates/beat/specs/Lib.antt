@@ -3,5 +3,8 @@ pub mod Making
 pub mod Laying
 pub mod Halving
 pub mod Splitting
-pub mod Joining
+pub mod Joined
 pub mod Seams
+pub mod LaneNotes
+pub mod Counting
+pub mod Joining

@@ -93,7 +93,7 @@ fn counted(at: usize, notes: u32, cells: u32) -> Contents
 }
 
 // The notes and cells of the shelf at a place.
-fn contents_at(s: &[u32], at: usize) -> Contents
+pub fn contents_at(s: &[u32], at: usize) -> Contents
     requires { ⌜ (at ≤ maxSession) × (at + 3 ≤ length (now s)) ⌝ }
     ensures { λ r. ⌜ r ≡ contentsAt (now (s .entry)) at ⌝ }
 {

@@ -1,74 +1,95 @@
-// Two takes joined, written into another shelf of the session straight from their own notes and cells.
+// Join: two takes in order go to a third shelf. Both may be the same shelf.
 ghost use mathlib.Core.Path.{_≡_};
-ghost use Prim.Native.Nat.{_+_, _*_, _≤_};
-ghost use Rattle.beat.specs.Making.{Made};
-ghost use Rattle.beat.specs.Joining.{LowerAsks, Lowered, BeforeAsks, PutBefore, JoinedAsks, cellsJoined};
-use crate::halves::Contents;
-use model::Cell;
-use session::notes;
+ghost use mathlib.Core.Bool.{true, not, _&&_};
+ghost use Prim.Native.Nat.{_<_};
+ghost use lib.Dec.{eqb};
+ghost use lib.ListN.{length};
+ghost use Rattle.model.specs.Session.{shelf};
+ghost use Rattle.model.specs.Soundness.{soundShelf};
+ghost use Rattle.model.specs.Machine.{joinCall};
+ghost use Rattle.model.specs.Questions.{headerOk, number, after};
+ghost use Rattle.beat.specs.Joining.{joinAsked};
+use crate::counting;
+use crate::joined;
+use crate::splitting;
+use model::Header;
+use model::HeaderAnswer;
+use session::header;
+use session::sound;
 
-// ---- cells
-
-// The second take's cells of lower lanes, so many beats later: those in front of the last `left` cells up to `end`. Returns how many are left.
-fn put_lower(s: &mut [u32], to: usize, lane: u32, beats: u32, end: usize, left: usize) -> usize
-    requires { ⌜ LowerAsks (now s) to lane beats end left ⌝ }
-    ensures { λ r. ⌜ Lowered (now (s .entry)) to lane beats end left (now (s .exit)) r ⌝ }
+// Question 3: does the result's shelf differ from both takes'?
+fn differs(first: u32, second: u32, result: u32) -> bool
+    ensures { λ r. ⌜ r ≡ (not (eqb result first) && not (eqb result second)) ⌝ }
 {
-    let mut at = to;
-    let mut rest = left;
-    while 0 < rest {
-        let c = notes::cell_at(s, end - 6 * rest);
-        if lane <= c.lane {
-            break;
+    if result == first {
+        return false;
+    }
+    result != second
+}
+
+// Is a shelf sound?
+fn is_sound(s: &[u32], h: Header, take: u32) -> bool
+    requires { ⌜ (headerOk h (length (now s)) ≡ true) × (take < h .shelves) ⌝ }
+    ensures { λ r. ⌜ r ≡ soundShelf h (shelf h (now (s .entry)) take) ⌝ }
+{
+    let at = header::shelf_at(h, take);
+    let end = at + (h.words as usize);
+    sound::sound(h, &s[at..end])
+}
+
+// Question 4: are both shelves sound? One that is both takes' is looked at once.
+fn are_sound(s: &[u32], h: Header, first: u32, second: u32) -> bool
+    requires { ⌜ (headerOk h (length (now s)) ≡ true) × (first < h .shelves) × (second < h .shelves) ⌝ }
+    ensures { λ r. ⌜ r ≡ (soundShelf h (shelf h (now (s .entry)) first) && soundShelf h (shelf h (now (s .entry)) second)) ⌝ }
+{
+    if !is_sound(s, h, first) {
+        return false;
+    }
+    if first == second {
+        return true;
+    }
+    is_sound(s, h, second)
+}
+
+// Questions 2, 3, 4, 6 and 8: the number of the first that is answered no, or 0.
+fn asked(s: &[u32], h: Header, first: u32, second: u32, result: u32) -> u32
+    requires { ⌜ headerOk h (length (now s)) ≡ true ⌝ }
+    ensures { λ r. ⌜ r ≡ joinAsked h (now (s .entry)) first second result ⌝ }
+{
+    if !splitting::shelves_ok(h, first, second, result) {
+        return 2;
+    }
+    if !differs(first, second, result) {
+        return 3;
+    }
+    if !are_sound(s, h, first, second) {
+        return 4;
+    }
+    if Header::BEATS < joined::beats_at(s, h, first) + joined::beats_at(s, h, second) {
+        return 6;
+    }
+    if !counting::join_fits(s, h, first, second) {
+        return 8;
+    }
+    0
+}
+
+// Joins the takes in two shelves, the second behind the first, into a third. Returns the number of the first question answered no, or 0.
+#[no_mangle]
+pub extern "C" fn take_join(session: &mut [u32], first: u32, second: u32, result: u32) -> u32
+    ensures number { λ r. ⌜ r ≡ number (now (session .entry)) (joinCall first second result) ⌝ }
+    ensures words { λ _. ⌜ now (session .exit) ≡ after (now (session .entry)) (joinCall first second result) ⌝ }
+{
+    let answer = header::read(session);
+    match answer {
+        HeaderAnswer::Valid(h) => {
+            let no = asked(session, h, first, second, result);
+            if no != 0 {
+                return no;
+            }
+            joined::put_joined(session, h, first, second, result);
+            0
         }
-        words::put_six(
-            s,
-            at,
-            c.lane,
-            beats + c.beat,
-            c.side,
-            c.before,
-            c.after,
-            c.velocity,
-        );
-        at += 6;
-        rest -= 1;
+        HeaderAnswer::Refused => 1,
     }
-    rest
-}
-
-// A cell of the first take, and before it the second's of lower lanes. Returns how many of the second's are left.
-fn put_before(s: &mut [u32], to: usize, c: Cell, beats: u32, end: usize, left: usize) -> usize
-    requires { ⌜ BeforeAsks (now s) to c beats end left ⌝ }
-    ensures { λ r. ⌜ PutBefore (now (s .entry)) to c beats end left (now (s .exit)) r ⌝ }
-{
-    let rest = put_lower(s, to, c.lane, beats, end, left);
-    let at = to + 6 * (left - rest);
-    words::put_six(s, at, c.lane, c.beat, c.side, c.before, c.after, c.velocity);
-    rest
-}
-
-// The joined cells: in each lane the first take's, then the second's, so many beats later. Returns the place behind them.
-pub fn put_joined_cells(
-    s: &mut [u32],
-    to: usize,
-    beats: u32,
-    first: Contents,
-    second: Contents,
-) -> usize
-    requires { ⌜ JoinedAsks (now s) to beats first second ⌝ }
-    ensures { λ r. ⌜ Made (now (s .entry)) to (cellsJoined beats (now (s .entry)) first second (first .cells) (second .cells)) (now (s .exit)) r ⌝ }
-{
-    let mut at = to;
-    let mut left = first.cells;
-    let mut rest = second.cells;
-    while 0 < left {
-        let c = notes::cell_at(s, first.end - 6 * left);
-        let next = put_before(s, at, c, beats, second.end, rest);
-        at += 6 * (rest - next) + 6;
-        rest = next;
-        left -= 1;
-    }
-    let over = put_lower(s, at, 2048, beats, second.end, rest);
-    at + 6 * (rest - over)
 }

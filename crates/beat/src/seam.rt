@@ -87,7 +87,7 @@ fn note_lane(s: &[u32], end: usize, left: usize) -> u32
 }
 
 // The lane of the first of the last `left` cells up to `end`: 2,048 if there is none.
-fn cell_lane(s: &[u32], end: usize, left: usize) -> u32
+pub fn cell_lane(s: &[u32], end: usize, left: usize) -> u32
     requires { ⌜ (6 * left ≤ end) × (end ≤ length (now s)) ⌝ }
     ensures { λ r. ⌜ r ≡ laneAhead (λ c. c .lane) (lastCells (now (s .entry)) end left) ⌝ }
 {
@@ -208,7 +208,7 @@ pub fn seam_over(
 // ---- the lane that is next
 
 // The lesser of two lanes.
-fn lesser(a: u32, b: u32) -> u32
+pub fn lesser(a: u32, b: u32) -> u32
     ensures { λ r. ⌜ r ≡ min a b ⌝ }
 {
     if a <= b {

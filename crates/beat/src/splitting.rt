@@ -13,7 +13,7 @@ use session::header;
 use session::sound;
 
 // Question 2: are the three shelves below K?
-fn shelves_ok(h: Header, take: u32, left: u32, right: u32) -> bool
+pub fn shelves_ok(h: Header, take: u32, left: u32, right: u32) -> bool
     ensures { λ r. ⌜ r ≡ (ltb take (h .shelves) && (ltb left (h .shelves) && ltb right (h .shelves))) ⌝ }
 {
     if h.shelves <= take {

@@ -1,15 +1,18 @@
--- "The questions" of write, and what it returns, counts and leaves. s is the session's words, out the output's bytes.
+-- "The questions" of write and load, and what each returns and leaves. s is the session's words, out the output's bytes.
 -- Assumes nothing.
 use Prim.Native.Nat.{ℕ, zero, suc}
-use mathlib.Core.Bool.{Bool}
+use mathlib.Core.Bool.{Bool, false}
 use mathlib.Core.List.{List, [], _∷_}
 use lib.Dec.{leb, ltb}
 use lib.ListN.{length}
 use Rattle.words.specs.Splice.{splice}
-use Rattle.model.specs.Questions.{headerOk, firstNo}
-use Rattle.model.specs.Session.{headerOf, shelf}
+use Rattle.model.specs.Questions.{headerOk, fits, firstNo}
+use Rattle.model.specs.Session.{headerOf, shelf, putShelf}
 use Rattle.model.specs.Soundness.{soundShelf}
-use Rattle.model.specs.Takes.{word, notesIn}
+use Rattle.model.specs.Takes.{word, notesIn, wordsOf}
+use Rattle.model.specs.Histories.{recordingTake}
+use Rattle.model.specs.declared.Header.{Header}
+use Rattle.midi.specs.Reading.{FileAnswer, refused, read, readFile}
 use Rattle.midi.specs.Writing.{fileBytes}
 
 -- ---- write
@@ -45,3 +48,35 @@ writeCount s i room = elim (writeNumber s i room) [ zero ↦ length (shelfFile s
 unfoldable pub writeOutput : List ℕ → ℕ → List ℕ → List ℕ
 unfolding writeNumber shelfFile splice
 writeOutput s i out = elim (writeNumber s i (length out)) [ zero ↦ splice out 0 (shelfFile s i) | suc n ↦ out ]
+
+-- ---- load
+
+-- 9 to 14 as the file is read; then 8: does the result fit W words?
+unfoldable pub fileQuestions : Header → FileAnswer → List (ℕ × Bool)
+unfolding fits recordingTake
+fileQuestions h (refused n) = (n, false) ∷ []
+fileQuestions h (read r) = (8, fits h (recordingTake (h .delta) r)) ∷ []
+
+-- Load goes through 1, 2, then 9 to 14, and then 8.
+unfoldable pub loadQuestions : List ℕ → ℕ → List ℕ → List (ℕ × Bool)
+unfolding headerOf headerOk fileQuestions readFile
+loadQuestions s i file =
+    let h = headerOf s in
+    (1, headerOk h (length s)) ∷ (2, ltb i (h .shelves)) ∷ fileQuestions h (readFile (h .delta) file)
+
+-- The number that it returns.
+unfoldable pub loadNumber : List ℕ → ℕ → List ℕ → ℕ
+unfolding firstNo loadQuestions
+loadNumber s i file = firstNo (loadQuestions s i file)
+
+-- The session's words with the take of the recording that was read in shelf i.
+unfoldable pub loaded : Header → List ℕ → ℕ → FileAnswer → List ℕ
+unfolding putShelf wordsOf recordingTake
+loaded h s i (refused n) = s
+loaded h s i (read r) = putShelf h s i (wordsOf h (recordingTake (h .delta) r))
+
+-- The session's words after a load: one that returns a number above 0 changes nothing.
+unfoldable pub loadAfter : List ℕ → ℕ → List ℕ → List ℕ
+unfolding loadNumber loaded readFile headerOf
+loadAfter s i file =
+    elim (loadNumber s i file) [ zero ↦ loaded (headerOf s) s i (readFile ((headerOf s) .delta) file) | suc n ↦ s ]

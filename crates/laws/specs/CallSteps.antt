@@ -204,12 +204,3 @@ call-step m k c = go (number (sessionFor m) c) refl
     go : (n : ℕ) → number (sessionFor m) c ≡ n → Step (fed m (c, number (sessionFor m) c)) (after (sessionFor m) c)
     go zero e = step-as (sym (fed-done m c (number (sessionFor m) c) e)) (after-done (sessionFor m) c e) (accepted-step m k c e)
     go (suc n) e = step-as (sym (fed-refused m c (number (sessionFor m) c) n e)) (after-refused (sessionFor m) c n e) (record { kept = k; words-are = refl })
-
--- and after any list of them
-pub calls-step : (cs : List Call) (m : Machine) → Kept m → Step (fedAll m (answered (sessionFor m) cs)) (afterAll (sessionFor m) cs)
-unfolding fedAll answered afterAll
-calls-step [] m k = record { kept = k; words-are = refl }
-calls-step (c ∷ cs) m k =
-    let s : Step (fed m (c, number (sessionFor m) c)) (after (sessionFor m) c) = call-step m k c in
-    let next = fed m (c, number (sessionFor m) c) in
-    subst (λ (w : List ℕ). Step (fedAll next (answered w cs)) (afterAll w cs)) (sym (s .words-are)) (calls-step cs next (s .kept))

@@ -3,7 +3,7 @@
 use mathlib.Core.Bool.{Bool, _&&_, false, not, true}
 use mathlib.Core.List.{List, [], _++_, _∷_}
 use mathlib.Core.Path.{_≡_, ap, refl, subst}
-use Prim.Native.Nat.{_+_, _<_, _≤_, min, suc, zero, ℕ}
+use Prim.Native.Nat.{_*_, _+_, _<_, _≤_, min, suc, zero, ℕ}
 use native.Mathlib.Omega.{arith}
 use lib.ListN.{length, length-append}
 use Rattle.model.specs.Binding.{standsAlone}
@@ -13,6 +13,7 @@ use Rattle.model.specs.declared.Cell.{Cell}
 use Rattle.model.specs.declared.Header.{Header}
 use Rattle.model.specs.declared.Note.{Note}
 use Rattle.laws.specs.JoinLanes.{join-lane-is, one-lane}
+use Rattle.laws.specs.Lists.{gather-none}
 use Rattle.laws.specs.JoinWalk.{From, cellRest, cellRun, each-none, each-step, only-cells}
 use Rattle.laws.specs.Joined.{OneLane, lane-length}
 use Rattle.laws.specs.Moving.{solid-join}
@@ -43,6 +44,11 @@ module _ (H : Header) (k : ℕ) where
   unfolding seams
   seams-none = each-none (λ ms cs ns ds. seamOf H k cs ds) seam-none
 
+  -- nor where the first take has none
+  pub seams-over : (ds : List Cell) → seams H k [] ds ≡ []
+  unfolding seams seamOf
+  seams-over ds = gather-none (λ l. seamOf H k [] (cellsAt l ds)) 2048 0 (λ l a. refl)
+
   -- the pairs are that of lane l in front, and then those of what stands behind it
   pub seams-step : (l : ℕ) (cs ds : List Cell) → l < 2048 → From (λ c. c .lane) l cs → From (λ c. c .lane) l ds
       → seams H k cs ds ≡ seamOf H k (cellRun l cs) (cellRun l ds) ++ seams H k (cellRest l cs) (cellRest l ds)
@@ -62,10 +68,20 @@ module _ (H : Header) (k : ℕ) where
 
   -- ---- sums over lanes
 
-  lone-append : (ps qs : List (Cell × Cell)) → lone H (ps ++ qs) ≡ lone H ps + lone H qs
+  pub lone-append : (ps qs : List (Cell × Cell)) → lone H (ps ++ qs) ≡ lone H ps + lone H qs
   unfolding lone
   lone-append [] qs = omega arith
   lone-append (p ∷ ps) qs = let e = lone-append ps qs in omega arith
+
+  -- each has two cells
+  pub lone-few : (ps : List (Cell × Cell)) → lone H ps ≤ 2 * length ps
+  unfolding lone
+  lone-few [] = omega arith
+  lone-few (p ∷ ps) = let e = lone-few ps in let a = one-few (standsAlone H (p .0)) in let b = one-few (standsAlone H (p .1)) in omega arith
+    where
+      one-few : (b : Bool) → one b ≤ 1
+      one-few true = omega arith
+      one-few false = omega arith
 
   lengths : (f g h : ℕ → List Note) (p : ℕ → List (Cell × Cell)) (n i : ℕ)
       → ((l : ℕ) → i ≤ l → l < i + n → length (f l) + lone H (p l) ≡ length (g l) + length (h l) + length (p l))
@@ -123,7 +139,8 @@ module _ (H : Header) (z : 0 < (H .delta)) (le : (H .epsilon) ≤ (H .delta)) (t
   lanes-length : (v : Take) → Solid (H .delta) v → length (gather (λ l. cellsAt l (v .cells)) lanes) ≡ length (v .cells)
   lanes-length v w = ap length (tidy-lanes (λ c. c .lane) (λ c. c .beat) cellTo (v .beats) (v .cells) (cells-tidy (H .delta) z v w))
 
-  pairs-few : length pairs ≤ min (length (t .cells)) (length (u .cells))
+  -- no more pairs than cells in the take that has fewer
+  pub pairs-few : length (seams H (t .beats) (t .cells) (u .cells)) ≤ min (length (t .cells)) (length (u .cells))
   unfolding seams
   pairs-few =
       let at : ℕ → List (Cell × Cell) = λ l. seamOf H (t .beats) (cellsAt l (t .cells)) (cellsAt l (u .cells)) in

@@ -151,7 +151,7 @@ joinFrom H k (suc n) ms cs ns ds =
 
 module _ {A : Type 0} (lane : A → ℕ) where
   -- the lane in front is the least
-  from-ahead : (i l : ℕ) (xs : List A) → From lane i xs → l ≤ laneAhead lane xs → From lane l xs
+  pub from-ahead : (i l : ℕ) (xs : List A) → From lane i xs → l ≤ laneAhead lane xs → From lane l xs
   unfolding laneAhead
   from-ahead i l [] f h = record { sorted = tt; above = tt; below = tt }
   from-ahead i l (x ∷ xs) f h = record {

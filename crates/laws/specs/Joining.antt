@@ -2,16 +2,18 @@
 -- Assumes nothing.
 use mathlib.Core.List.{List, [], _∷_, map}
 use mathlib.Core.Option.{none}
-use mathlib.Core.Path.{_≡_, ap, refl, sym}
+use mathlib.Core.Path.{_∙_, _≡_, ap, refl, sym}
 use Prim.Native.Nat.{_%_, _*_, _+_, _-_, _/_, _<_, _≤_, ℕ}
 use native.Mathlib.Nat.{add-mul, div-add-mod'}
 use native.Mathlib.Omega.{arith}
+use lib.ListN.{length}
 use Rattle.model.specs.Pieces.{firstBeat}
 use Rattle.model.specs.Takes.{Take, cellTo, joinTakes, laterBy, merge, noteTo, notesOf}
 use Rattle.model.specs.declared.Cell.{Cell}
 use Rattle.model.specs.declared.Header.{Header}
 use Rattle.model.specs.declared.Note.{Note}
-use Rattle.laws.specs.Lanes.{merge-lane, mergeLane}
+use Rattle.laws.specs.Lanes.{length-mergeLane, merge-lane, mergeLane}
+use Rattle.laws.specs.Lists.{length-map}
 use Rattle.laws.specs.Notes.{Fair, Follow, above, later, note-same}
 use Rattle.laws.specs.Relations.{All, Pairs, all-imp, pairs-imp}
 use Rattle.laws.specs.Solid.{Apart, Fine, Solid, beat-up, lane-up, side-up}
@@ -56,6 +58,11 @@ module _ (δ : ℕ) (t u : Take) (s : Solid δ t) (r : Solid δ u) where
       let f : Cell → Cell = λ c. cellTo (t .beats + c .beat) c in
       let v = cell-lanes δ u r in
       sym (merge-lane (λ c. c .lane) (t .cells) (map f (u .cells)) (cell-lanes δ t s) (map-pairs (λ c. c .lane) f (λ c. refl) (u .cells) (v .0), map-all (λ c. c .lane) f (λ c. refl) (λ l. l < 2048) (u .cells) (v .1)))
+
+  pub length-join-cells : length ((joinTakes δ t u) .cells) ≡ length (t .cells) + length (u .cells)
+  length-join-cells =
+      let f : Cell → Cell = λ c. cellTo (t .beats + c .beat) c in
+      ap length join-cells ∙ length-mergeLane (λ c. c .lane) (t .cells) (map f (u .cells)) ∙ ap (_+_ (length (t .cells))) (length-map f (u .cells))
 
   pub join-inner : (joinTakes δ t u) .inner ≡ mergeLane (λ n. n .lane) (t .inner) (map (λ n. noteTo δ (t .beats + firstBeat δ n) n) (u .inner))
   unfolding joinTakes laterBy

@@ -4,10 +4,11 @@ use mathlib.Core.Bool.{Bool, _&&_, false, true}
 use mathlib.Core.List.{List, [], _++_, _∷_, append-nil, map}
 use mathlib.Core.Logic.{_≢_}
 use mathlib.Core.Path.{_∙_, _≡_, ap, ap₂, refl, sym}
-use Prim.Native.Nat.{_<_, _≤_, suc, zero, ℕ}
+use Prim.Native.Nat.{_+_, _<_, _≤_, suc, zero, ℕ}
 use native.Mathlib.Decide.{ℕ-discrete}
 use native.Mathlib.Omega.{arith}
 use lib.Dec.{eqb, leb}
+use lib.ListN.{length}
 use borrow.Author.Tests.{eq-eqb, eqb-true, leb-false, leb-true, ne-eqb}
 use Rattle.model.specs.Lists.{countFrom, gather, keep}
 use Rattle.model.specs.Takes.{byLane, lanes}
@@ -64,6 +65,23 @@ module _ {A : Type 0} (lane : A → ℕ) where
   unfolding insertLane
   mergeLane [] ys = ys
   mergeLane (x ∷ xs) ys = insertLane x (λ zs. mergeLane xs zs) ys
+
+  length-insertLane : (x : A) (more : List A → List A) (n : ℕ) → ((zs : List A) → length (more zs) ≡ n + length zs) → (ys : List A)
+      → length (insertLane x more ys) ≡ suc n + length ys
+  unfolding insertLane
+  length-insertLane x more n h [] = omega (arith, h [])
+  length-insertLane x more n h (y ∷ ys) = go (leb (lane x) (lane y)) (length-insertLane x more n h ys)
+    where
+      go : (b : Bool) → length (insertLane x more ys) ≡ suc n + length ys
+          → length {A = A} (elim b [ true ↦ x ∷ more (y ∷ ys) | false ↦ y ∷ insertLane x more ys ]) ≡ suc n + length (y ∷ ys)
+      go true ih = omega (arith, h (y ∷ ys))
+      go false ih = omega arith
+
+  -- as many as in both
+  pub length-mergeLane : (xs ys : List A) → length (mergeLane xs ys) ≡ length xs + length ys
+  unfolding mergeLane
+  length-mergeLane [] ys = omega arith
+  length-mergeLane (x ∷ xs) ys = length-insertLane x (λ zs. mergeLane xs zs) (length xs) (length-mergeLane xs) ys
 
   abbrev Lanes : List A → Type 0
   Lanes xs = Pairs (λ x y. lane x ≤ lane y) xs × All (λ x. lane x < 2048) xs

@@ -32,7 +32,6 @@ pub mod Sessions
 pub mod Steps
 pub mod Accepted
 pub mod CallSteps
-pub mod Claim
 pub mod Reached
 pub mod Sweep
 pub mod Linear

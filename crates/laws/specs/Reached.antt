@@ -1,4 +1,4 @@
--- What calls reach is sound, and the numbers that they therefore never return: 4 in a session that the calls made, 8 for a split in any session.
+-- A session that holds what the machine gives is sound, and the numbers that calls therefore never return: 4 there, 8 for a split in any session.
 -- Assumes nothing.
 use mathlib.Core.Bool.{Bool, _&&_, false, true}
 use mathlib.Core.List.{List, [], _++_, _∷_}
@@ -18,14 +18,13 @@ use Rattle.model.specs.declared.Header.{Header}
 use Rattle.laws.specs.Accepted.{below}
 use Rattle.laws.specs.Booleans.{and-left, and-right, and-yes}
 use Rattle.laws.specs.CallSteps.{header-for, history-beats, history-ok}
-use Rattle.laws.specs.Claim.{machine-kept, machineAfter, session-claim, sessionAfter}
 use Rattle.laws.specs.Counting.{split-fits}
 use Rattle.laws.specs.Relations.{All}
 use Rattle.laws.specs.Solid.{Solid}
 use Rattle.laws.specs.Sound.{solid-sound}
 use Rattle.laws.specs.Steps.{HistoryOk, Kept, Ranges, positive-delta, ranges, sessionFor, shelf-is, small-epsilon, solid-shelf}
 
--- ---- every shelf that a list of calls reaches is sound
+-- ---- a shelf that holds what the machine gives is sound
 
 given-sound : (m : Machine) (i : ℕ) → 0 < m .header .delta → m .header .epsilon ≤ m .header .delta
     → Solid (m .header .delta) (historyTake (m .header .delta) (m .recordings) (history m i))
@@ -39,13 +38,6 @@ given-sound m i z le s o =
 -- a shelf that holds what the machine gives is sound
 pub kept-sound : (m : Machine) → Kept m → (i : ℕ) → i < m .header .shelves → soundShelf (m .header) (shelf (m .header) (sessionFor m) i) ≡ true
 kept-sound m k i b = ap (soundShelf (m .header)) (shelf-is m k i b) ∙ given-sound m i (positive-delta m k) (small-epsilon m k) (solid-shelf m k i) (history-ok m k i b)
-
-module _ (s : List ℕ) (H : Header) (o : number s (openCall H) ≡ 0) where
-  pub reached-sound : (cs : List Call) (i : ℕ) → i < (machineAfter s H o cs) .header .shelves
-      → soundShelf ((machineAfter s H o cs) .header) (shelf ((machineAfter s H o cs) .header) (sessionAfter s H o cs) i) ≡ true
-  reached-sound cs i b =
-      let m = machineAfter s H o cs in
-      ap (λ (w : List ℕ). soundShelf (m .header) (shelf (m .header) w i)) (session-claim s H o cs) ∙ kept-sound m (machine-kept s H o cs) i b
 
 -- ---- numbers that are never returned
 
@@ -140,7 +132,3 @@ never-four m k (joinCall i j n) e =
     let behind : List (ℕ × Bool) = (6, beatsOk H s c) ∷ (8, resultsFit H s c) ∷ [] in
     other-number 4 (before ++ behind) (omega arith) ((λ f. omega arith), ((λ f. omega arith), ((λ f. omega arith), ((λ f. omega arith), ((λ f. omega arith), tt)))))
     (sym (skip-question before 4 (readsSound H s c) behind (λ a. subst (λ (h : Header). shelvesOk h c ≡ true → readsSound h s c ≡ true) (sym (header-for m)) (reads-sound m k c) (a .1 .0))) ∙ e)
-
-module _ (s : List ℕ) (H : Header) (o : number s (openCall H) ≡ 0) where
-  pub reached-never-four : (cs : List Call) (c : Call) → number (sessionAfter s H o cs) c ≢ 4
-  reached-never-four cs c e = never-four (machineAfter s H o cs) (machine-kept s H o cs) c (ap (λ (w : List ℕ). number w c) (sym (session-claim s H o cs)) ∙ e)

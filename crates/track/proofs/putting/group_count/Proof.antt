@@ -1,7 +1,7 @@
 -- `track::putting::group_count` meets its contract: the number of bits from the leading zeros, seven to a group. Assumes nothing.
-use Rattle.track.proofs.Groups.{by-bits, zero-one}
-use lib.Count.{leading-le, leadingZeros, leading-top}
-use Prim.Native.Nat.{_<_}
+use mathlib.Core.Path.{sym}
+use Rattle.midi.proofs.Groups.{groups-by-zeros, groups-of-zero}
+use lib.Count.{leading-le}
 use native.Mathlib.Omega.{arith}
 use borrow.Author.Needs.{needs}
 use Rattle.track.proofs.putting.group_count.Statement.{statement}
@@ -11,7 +11,7 @@ use Rattle.track.proofs.putting.group_count.Lts as lts
 
 -- src/putting.rt:18:9
 returns : tie.Need-returns
-returns c = zero-one _ (c .if1 .taken)
+returns c = rw (c .if1 .taken) (sym groups-of-zero)
 
 -- src/putting.rt:20:6
 sub-result : tie.Need-sub-result
@@ -19,11 +19,7 @@ sub-result c = omega (arith, leading-le 32 (c .before .args .x))
 
 -- src/putting.rt:13:1
 returns-2 : tie.Need-returns-2
-returns-2 c =
-    let x = c .before .args .x in
-    let p : 0 < x = omega arith in
-    let t = leading-top 32 x p (c .before .fits .x .fits) in
-    by-bits x (t .0) (leadingZeros 32 x) (t .1) (t .2) (t .3) (c .before .pre)
+returns-2 c = groups-by-zeros (c .before .args .x) (omega arith) (c .before .pre)
 
 pub group-count-spec : {M : Type 1} → statement M
 group-count-spec = tie.close (tie.spec returns sub-result returns-2)

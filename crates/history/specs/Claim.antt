@@ -1,40 +1,44 @@
--- Demand 3 for lay, split and join on a fresh session, refused calls included: one claim about the whole list of calls, and its
--- two consequences. A list may also open the session anew; then the machine starts anew with it. Assumes nothing.
+-- Demand 3: any list of lay, load, split and join calls on a fresh session, refused ones included; one claim about the whole list, and
+-- its two consequences. A list may also open the session anew; then the machine starts anew with it. Assumes nothing.
 use mathlib.Core.List.{List, [], _++_, _∷_, append-assoc, append-nil}
 use mathlib.Core.Path.{_∙_, _≡_, ap, ap₂, refl, subst, sym}
 use Prim.Native.Nat.{_<_, suc, zero, ℕ}
 use lib.ListN.{getD, length}
 use Rattle.model.specs.Histories.{Recording, historyTake, historyWords, pairsOf, recordingTake}
 use Rattle.model.specs.Lists.{gather}
-use Rattle.model.specs.Machine.{Call, Machine, accepted, fed, fedAll, givenWords, history, joinCall, layCall, listed, openCall, opened, recorded, splitCall}
+use Rattle.model.specs.Machine as M
+use Rattle.model.specs.Machine.{Machine, givenWords, history, joinCall, layCall, listed, openCall, opened, recorded, splitCall}
 use Rattle.model.specs.Pieces.{cellsOfNote}
-use Rattle.model.specs.Questions.{after, afterAll, answered, number, written}
+use Rattle.model.specs.Questions as Q
 use Rattle.model.specs.Session.{shelf}
 use Rattle.model.specs.Takes.{Take, notesOf, shelfWords, wordsOf}
 use Rattle.model.specs.declared.Header.{Header}
-use Rattle.laws.specs.CallSteps.{after-done, calls-step, history-ok, open-step, own-pairs}
+use Rattle.laws.specs.CallSteps.{after-done, history-ok, open-step, own-pairs}
 use Rattle.laws.specs.Healing.{laid-words, notes-again}
 use Rattle.laws.specs.Histories.{grow}
 use Rattle.laws.specs.OneNote.{Valid}
 use Rattle.laws.specs.Relations.{All, all-at}
+use Rattle.midi.specs.Reading.{FileAnswer, refused, read, readFile}
+use Rattle.history.specs.Lists.{Call, beatCall, loadCall, number, after, accepted, recordedFile, fed, answered, afterAll, fedAll}
+use Rattle.history.specs.Steps.{list-step}
 use Rattle.laws.specs.Steps.{Kept, Step, positive-delta, sessionFor, shelf-is}
 
 -- ---- the claim
 
-module _ (s : List ℕ) (H : Header) (o : number s (openCall H) ≡ 0) where
+module _ (s : List ℕ) (H : Header) (o : Q.number s (openCall H) ≡ 0) where
   -- The session's words after open and then the calls, each given the session as the one before left it.
   abbrev pub sessionAfter : List Call → List ℕ
-  sessionAfter cs = afterAll (after s (openCall H)) cs
+  sessionAfter cs = afterAll (Q.after s (openCall H)) cs
 
   -- The plain machine, fed the calls and the numbers that they returned.
   abbrev pub machineAfter : List Call → Machine
-  machineAfter cs = fedAll (opened H) (answered (after s (openCall H)) cs)
+  machineAfter cs = fedAll (opened H) (answered (Q.after s (openCall H)) cs)
 
   run : (cs : List Call) → Step (machineAfter cs) (sessionAfter cs)
   run cs =
-      let p : Step (opened H) (written s (openCall H)) = open-step s H o in
-      let e : after s (openCall H) ≡ sessionFor (opened H) = after-done s (openCall H) o ∙ p .words-are in
-      subst (λ (w : List ℕ). Step (fedAll (opened H) (answered w cs)) (afterAll w cs)) (sym e) (calls-step cs (opened H) (p .kept))
+      let p : Step (opened H) (Q.written s (openCall H)) = open-step s H o in
+      let e : Q.after s (openCall H) ≡ sessionFor (opened H) = after-done s (openCall H) o ∙ p .words-are in
+      subst (λ (w : List ℕ). Step (fedAll (opened H) (answered w cs)) (afterAll w cs)) (sym e) (list-step cs (opened H) (p .kept))
 
   pub machine-kept : (cs : List Call) → Kept (machineAfter cs)
   machine-kept cs = (run cs) .kept
@@ -51,12 +55,13 @@ module _ (s : List ℕ) (H : Header) (o : number s (openCall H) ≡ 0) where
 
 -- ---- calls that edit
 
--- Lay, split and join: all calls but open.
+-- Lay, load, split and join: all calls but open.
 abbrev pub Edit : Call → Type 0
-Edit (openCall h) = ⊥
-Edit (layCall i beats ws) = Unit {0}
-Edit (splitCall i k l r) = Unit {0}
-Edit (joinCall i j k) = Unit {0}
+Edit (beatCall (openCall h)) = ⊥
+Edit (beatCall (layCall i beats ws)) = Unit {0}
+Edit (beatCall (splitCall i k l r)) = Unit {0}
+Edit (beatCall (joinCall i j k)) = Unit {0}
+Edit (loadCall i file) = Unit {0}
 
 -- The machine at a later point: the same header, the same recordings and perhaps more.
 pub record Later (m n : Machine) : Type 0 where
@@ -74,12 +79,18 @@ later-then l m n p q = record {
   grew = q .grew ∙ ap (λ (rs : List Recording). rs ++ q .more) (p .grew) ∙ append-assoc (l .recordings) (p .more) (q .more);
 }
 
+read-later : (m : Machine) (i : ℕ) (a : FileAnswer) → Later m (recordedFile m i a)
+unfolding recordedFile recorded
+read-later m i (refused n) = later-now m
+read-later m i (read r) = record { header-same = refl; more = r ∷ []; grew = refl }
+
 edit-later : (m : Machine) (c : Call) → Edit c → Later m (accepted m c)
-unfolding accepted recorded
-edit-later m (openCall h) e = absurd e
-edit-later m (layCall i beats ws) e = record { header-same = refl; more = listed beats ws ∷ []; grew = refl }
-edit-later m (splitCall i k l r) e = record { header-same = refl; more = []; grew = sym (append-nil (m .recordings)) }
-edit-later m (joinCall i j k) e = record { header-same = refl; more = []; grew = sym (append-nil (m .recordings)) }
+unfolding accepted M.accepted recorded
+edit-later m (beatCall (openCall h)) e = absurd e
+edit-later m (beatCall (layCall i beats ws)) e = record { header-same = refl; more = listed beats ws ∷ []; grew = refl }
+edit-later m (beatCall (splitCall i k l r)) e = record { header-same = refl; more = []; grew = sym (append-nil (m .recordings)) }
+edit-later m (beatCall (joinCall i j k)) e = record { header-same = refl; more = []; grew = sym (append-nil (m .recordings)) }
+edit-later m (loadCall i file) e = read-later m i (readFile (m .header .delta) file)
 
 fed-later : (m : Machine) (c : Call) (n : ℕ) → Edit c → Later m (fed m (c, n))
 unfolding fed
@@ -114,10 +125,10 @@ given-take : (m : Machine) (i : ℕ) (t : Take) → historyTake (m .header .delt
 unfolding givenWords historyWords
 given-take m i t e = ap (wordsOf (m .header)) e
 
-module _ (s : List ℕ) (H : Header) (o : number s (openCall H) ≡ 0) where
+module _ (s : List ℕ) (H : Header) (o : Q.number s (openCall H) ≡ 0) where
   later-point : (cs ds : List Call) → All Edit ds → Later (machineAfter s H o cs) (machineAfter s H o (cs ++ ds))
   later-point cs ds a =
-      subst (λ (n : Machine). Later (machineAfter s H o cs) n) (sym (fed-append cs ds (after s (openCall H)) (opened H))) (all-later ds (sessionAfter s H o cs) (machineAfter s H o cs) a)
+      subst (λ (n : Machine). Later (machineAfter s H o cs) n) (sym (fed-append cs ds (Q.after s (openCall H)) (opened H))) (all-later ds (sessionAfter s H o cs) (machineAfter s H o cs) a)
 
   -- Two shelves of equal history hold equal words, at whatever two points of one list of edits they are read.
   pub equal-histories : (cs ds : List Call) → All Edit ds → (i j : ℕ) → i < (machineAfter s H o cs) .header .shelves

@@ -1,13 +1,13 @@
--- `beat::joining::put_joined_cells` meets its contract. The measure is how many of the first's cells are left. Assumes nothing.
+-- `beat::joined::put_joined_cells` meets its contract. The measure is how many of the first's cells are left. Assumes nothing.
 use native.Mathlib.Omega.{arith}
 use Rattle.beat.proofs.JoinCells.{Joining, joining-start, first-place, first-room, before-asks, some-fewer, at-room, joining-cell, last-asks, joined-room, joined-done}
 use borrow.Author.Needs.{needs}
-use Rattle.beat.proofs.joining.put_joined_cells.Statement.{statement}
-use Rattle.beat.proofs.joining.put_joined_cells.Tie as tie
-use Rattle.beat.proofs.joining.put_joined_cells.Reads as reads
-use Rattle.beat.proofs.joining.put_joined_cells.Lts as lts
-use Rattle.beat.proofs.joining.put_before.Reads as put-before-reads
-use Rattle.beat.proofs.joining.put_lower.Reads as put-lower-reads
+use Rattle.beat.proofs.joined.put_joined_cells.Statement.{statement}
+use Rattle.beat.proofs.joined.put_joined_cells.Tie as tie
+use Rattle.beat.proofs.joined.put_joined_cells.Reads as reads
+use Rattle.beat.proofs.joined.put_joined_cells.Lts as lts
+use Rattle.beat.proofs.joined.put_before.Reads as put-before-reads
+use Rattle.beat.proofs.joined.put_lower.Reads as put-lower-reads
 use Rattle.session.proofs.notes.cell_at.Reads as cell-at-reads
 
 abbrev Inv-loop : tie.InvT-loop

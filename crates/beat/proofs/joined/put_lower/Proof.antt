@@ -1,11 +1,11 @@
--- `beat::joining::put_lower` meets its contract. The measure is how many cells are left. Assumes nothing.
+-- `beat::joined::put_lower` meets its contract. The measure is how many cells are left. Assumes nothing.
 use native.Mathlib.Omega.{arith}
 use Rattle.beat.proofs.JoinCells.{Lowering, lowering-start, lower-place, lower-inside, lower-movable, lower-room, lowering-cell, lowered-stop, lowered-end}
 use borrow.Author.Needs.{needs}
-use Rattle.beat.proofs.joining.put_lower.Statement.{statement}
-use Rattle.beat.proofs.joining.put_lower.Tie as tie
-use Rattle.beat.proofs.joining.put_lower.Reads as reads
-use Rattle.beat.proofs.joining.put_lower.Lts as lts
+use Rattle.beat.proofs.joined.put_lower.Statement.{statement}
+use Rattle.beat.proofs.joined.put_lower.Tie as tie
+use Rattle.beat.proofs.joined.put_lower.Reads as reads
+use Rattle.beat.proofs.joined.put_lower.Lts as lts
 use Rattle.session.proofs.notes.cell_at.Reads as cell-at-reads
 use Rattle.words.proofs.put_six.Reads as put-six-reads
 

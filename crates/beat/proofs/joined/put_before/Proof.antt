@@ -1,12 +1,12 @@
--- `beat::joining::put_before` meets its contract. Assumes nothing.
+-- `beat::joined::put_before` meets its contract. Assumes nothing.
 use native.Mathlib.Omega.{arith}
 use Rattle.beat.proofs.JoinCells.{lower-asks, fewer, behind-lower, before-put}
 use borrow.Author.Needs.{needs}
-use Rattle.beat.proofs.joining.put_before.Statement.{statement}
-use Rattle.beat.proofs.joining.put_before.Tie as tie
-use Rattle.beat.proofs.joining.put_before.Reads as reads
-use Rattle.beat.proofs.joining.put_before.Lts as lts
-use Rattle.beat.proofs.joining.put_lower.Reads as put-lower-reads
+use Rattle.beat.proofs.joined.put_before.Statement.{statement}
+use Rattle.beat.proofs.joined.put_before.Tie as tie
+use Rattle.beat.proofs.joined.put_before.Reads as reads
+use Rattle.beat.proofs.joined.put_before.Lts as lts
+use Rattle.beat.proofs.joined.put_lower.Reads as put-lower-reads
 use Rattle.words.proofs.put_six.Reads as put-six-reads
 
 put-lower-requires : tie.Need-put-lower-requires
