@@ -42,7 +42,8 @@ status_only() { echo 1 0; }
 step layout status_only rt fmt --check
 step proofs last_line rt ci
 step reference cargo_results cargo test --offline --manifest-path reference/Cargo.toml
-step archive status_only rt staticlib beat
+step beat-archive status_only rt staticlib beat
+step file-archive status_only rt staticlib file
 step comparison status_only cargo run --offline --quiet --release --manifest-path compare/Cargo.toml
 
 echo "$passed passed, $failed failed"

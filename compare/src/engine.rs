@@ -26,6 +26,14 @@ unsafe extern "C" {
         right: u32,
     ) -> u32;
     fn take_join(session: *mut u32, words: usize, first: u32, second: u32, result: u32) -> u32;
+    fn take_write(
+        session: *const u32,
+        words: usize,
+        shelf: u32,
+        output: *mut u8,
+        room: usize,
+        count: *mut u64,
+    ) -> u32;
 }
 
 pub fn open(session: &mut [u32], header: [u32; 4]) -> u32 {
@@ -49,4 +57,18 @@ pub fn split(session: &mut [u32], take: u32, beat: u32, left: u32, right: u32) -
 pub fn join(session: &mut [u32], first: u32, second: u32, result: u32) -> u32 {
     // SAFETY: pointer and length are those of a lent slice.
     unsafe { take_join(session.as_mut_ptr(), session.len(), first, second, result) }
+}
+
+pub fn write(session: &[u32], shelf: u32, output: &mut [u8], count: &mut u64) -> u32 {
+    // SAFETY: pointers and lengths are those of two lent slices that share nothing, and of a lent number.
+    unsafe {
+        take_write(
+            session.as_ptr(),
+            session.len(),
+            shelf,
+            output.as_mut_ptr(),
+            output.len(),
+            count,
+        )
+    }
 }

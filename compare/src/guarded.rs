@@ -1,29 +1,42 @@
-//! A list of words between guard words, so that a write outside it is seen.
+//! Words or bytes between guard words or bytes, so that a write outside them
+//! is seen.
 
 const GUARD: usize = 16;
-const MARK: u32 = 0xA5C3_96E1;
 
-pub struct Guarded(Vec<u32>);
+/// A kind of element, with the value of its guards.
+pub trait Element: Copy + PartialEq {
+    const MARK: Self;
+}
 
-impl Guarded {
-    pub fn new(words: &[u32]) -> Self {
-        let mut all = vec![MARK; words.len() + 2 * GUARD];
-        all[GUARD..GUARD + words.len()].copy_from_slice(words);
+impl Element for u32 {
+    const MARK: u32 = 0xA5C3_96E1;
+}
+
+impl Element for u8 {
+    const MARK: u8 = 0xA5;
+}
+
+pub struct Guarded<T>(Vec<T>);
+
+impl<T: Element> Guarded<T> {
+    pub fn new(inside: &[T]) -> Self {
+        let mut all = vec![T::MARK; inside.len() + 2 * GUARD];
+        all[GUARD..GUARD + inside.len()].copy_from_slice(inside);
         Guarded(all)
     }
 
-    pub fn words(&self) -> &[u32] {
+    pub fn inside(&self) -> &[T] {
         &self.0[GUARD..self.0.len() - GUARD]
     }
 
-    pub fn words_mut(&mut self) -> &mut [u32] {
+    pub fn inside_mut(&mut self) -> &mut [T] {
         let end = self.0.len() - GUARD;
         &mut self.0[GUARD..end]
     }
 
-    /// Whether the words are these and every guard word is as it was.
-    pub fn holds(&self, words: &[u32]) -> bool {
+    /// Whether the elements are these and every guard is as it was.
+    pub fn holds(&self, inside: &[T]) -> bool {
         let ends = self.0[..GUARD].iter().chain(&self.0[self.0.len() - GUARD..]);
-        self.words() == words && ends.into_iter().all(|&word| word == MARK)
+        self.inside() == inside && ends.into_iter().all(|&guard| guard == T::MARK)
     }
 }

@@ -8,6 +8,7 @@ mod guarded;
 mod inputs;
 mod joins;
 mod pair;
+mod writes;
 
 use joins::Broken;
 use pair::{Counts, Pair};
@@ -126,6 +127,11 @@ fn one_round(round: u64, counts: &mut Counts, seen: &mut Broken) -> Result<(), S
     joins::free_takes(random, counts)?;
     joins::broken_shelves(random, counts, seen)?;
     joins::random_words(random, counts)?;
+    writes::around_the_length(random, counts)?;
+    writes::damaged(random, counts)?;
+    if round % 500 == 0 {
+        writes::at_the_limits(random, counts)?;
+    }
     if round % 50 == 0 {
         joins::long_list(random, counts)?;
     }
@@ -141,11 +147,14 @@ fn compare(rounds: u64) -> Result<(Counts, Broken), String> {
     Ok((counts, seen))
 }
 
-/// What all rounds must have met: joins with every number that a join can
-/// give, and each clause of soundness broken alone.
+/// What all rounds must have met: joins and writes with every number that they
+/// can give, and each clause of soundness broken alone.
 fn has_met_all(counts: &Counts, seen: &Broken) -> bool {
-    let numbers = [0, 1, 2, 3, 4, 6, 8];
-    numbers.iter().all(|&number| counts.join[number] > 0) && seen.alone.len() == CLAUSES
+    let joins = [0, 1, 2, 3, 4, 6, 8];
+    let writes = [0, 1, 2, 4, 15];
+    joins.iter().all(|&number| counts.join[number] > 0)
+        && writes.iter().all(|&number| counts.write[number] > 0)
+        && seen.alone.len() == CLAUSES
 }
 
 fn main() -> ExitCode {
@@ -163,9 +172,9 @@ fn main() -> ExitCode {
             ExitCode::FAILURE
         }
         Ok((counts, seen)) => {
-            let Counts { open, lay, split, join } = counts;
-            let calls: u64 = open.iter().chain(&lay).chain(&split).chain(&join).sum();
-            println!("{calls} calls agree; by number: open {open:?}, lay {lay:?}, split {split:?}, join {join:?}");
+            let Counts { open, lay, split, join, write } = counts;
+            let calls: u64 = open.iter().chain(&lay).chain(&split).chain(&join).chain(&write).sum();
+            println!("{calls} calls agree; by number: open {open:?}, lay {lay:?}, split {split:?}, join {join:?}, write {write:?}");
             let (alone, pairs) = (seen.alone.len(), seen.pairs.len());
             println!("joins refused for {alone} clauses broken alone and {pairs} pairs of them");
             ExitCode::SUCCESS

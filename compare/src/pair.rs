@@ -12,10 +12,11 @@ pub struct Counts {
     pub lay: [u64; 9],
     pub split: [u64; 6],
     pub join: [u64; 9],
+    pub write: [u64; 16],
 }
 
 pub struct Pair {
-    proved: Guarded,
+    proved: Guarded<u32>,
     pub second: Vec<u32>,
 }
 
@@ -25,7 +26,7 @@ impl Pair {
     }
 
     pub fn set(&mut self, place: usize, word: u32) {
-        self.proved.words_mut()[place] = word;
+        self.proved.inside_mut()[place] = word;
         self.second[place] = word;
     }
 
@@ -52,7 +53,7 @@ impl Pair {
 
     pub fn open(&mut self, header: [u32; 4], counts: &mut Counts) -> Result<u32, String> {
         let [delta, epsilon, shelves, shelf_words] = header;
-        let number = engine::open(self.proved.words_mut(), header);
+        let number = engine::open(self.proved.inside_mut(), header);
         let expected = reference::open(&mut self.second, delta, epsilon, shelves, shelf_words);
         self.agreed(&format!("open {header:?}"), number, expected)?;
         counts.open[number as usize] += 1;
@@ -67,7 +68,7 @@ impl Pair {
         counts: &mut Counts,
     ) -> Result<u32, String> {
         let notes = Guarded::new(list);
-        let number = engine::lay(self.proved.words_mut(), shelf, beats, notes.words());
+        let number = engine::lay(self.proved.inside_mut(), shelf, beats, notes.inside());
         let expected = reference::lay(&mut self.second, shelf, beats, list);
         let call = format!("lay {shelf} {beats} {list:?}");
         self.agreed(&call, number, expected)?;
@@ -86,7 +87,7 @@ impl Pair {
         right: u32,
         counts: &mut Counts,
     ) -> Result<u32, String> {
-        let number = engine::split(self.proved.words_mut(), take, beat, left, right);
+        let number = engine::split(self.proved.inside_mut(), take, beat, left, right);
         let expected = reference::split(&mut self.second, take, beat, left, right);
         self.agreed(&format!("split {take} {beat} {left} {right}"), number, expected)?;
         counts.split[number as usize] += 1;
@@ -100,11 +101,27 @@ impl Pair {
         result: u32,
         counts: &mut Counts,
     ) -> Result<u32, String> {
-        let number = engine::join(self.proved.words_mut(), first, second, result);
+        let number = engine::join(self.proved.inside_mut(), first, second, result);
         let expected = reference::join(&mut self.second, first, second, result);
         self.agreed(&format!("join {first} {second} {result}"), number, expected)?;
         counts.join[number as usize] += 1;
         Ok(number)
+    }
+
+    /// A write to an output that holds `output`.
+    pub fn write(&self, shelf: u32, output: &[u8], counts: &mut Counts) -> Result<u64, String> {
+        let (mut bytes, mut expected_bytes) = (Guarded::new(output), output.to_vec());
+        let (mut count, mut expected_count) = (u64::MAX, u64::MAX);
+        let number = engine::write(self.proved.inside(), shelf, bytes.inside_mut(), &mut count);
+        let expected =
+            reference::write(&self.second, shelf, &mut expected_bytes, &mut expected_count);
+        let call = format!("write {shelf} to {} bytes", output.len());
+        self.agreed(&call, number, expected)?;
+        if count != expected_count || !bytes.holds(&expected_bytes) {
+            return Err(format!("{call}: {count} bytes, expected {expected_count}, or other bytes"));
+        }
+        counts.write[number as usize] += 1;
+        Ok(count)
     }
 
     /// A lay, split or join; other calls are passed over.

@@ -7,6 +7,7 @@ pub mod Parts
 pub mod ChunkLoops
 pub mod Tallies
 pub mod FirstPass
+pub mod Answers
 pub mod Places
 pub mod Replays
 pub mod PlacingLoop

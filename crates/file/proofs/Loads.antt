@@ -44,6 +44,7 @@ use Rattle.file.specs.Chunks.{TrackPlace, refusal, bytes, chunkPlace, tr
 use Rattle.file.specs.Counting.{recording, summary, Times, CountsOf}
 use Rattle.file.specs.Counting as counts
 use Rattle.file.specs.Loading.{answerNumber, answerAfter, ShelfAsks, RecordingAsks}
+use Rattle.file.proofs.Answers.{ReadAs, refused-is, recording-is}
 use Rattle.file.proofs.ChunkLoops.{read-place}
 
 -- ---- the number of an answer, and the words
@@ -61,9 +62,9 @@ module _ (h : Header) (s : List ℕ) (i : ℕ) (a : FileAnswer) where
   unfolding answerAfter
   answered-done e f = (sym e, rw (answerAfter, e) f)
 
-refused-is : (h : Header) (q : ℕ) → answerNumber h (refused q) ≡ q
+number-refused : (h : Header) (q : ℕ) → answerNumber h (refused q) ≡ q
 unfolding answerNumber firstNo fileQuestions
-refused-is h q = refl
+number-refused h q = refl
 
 one : (b : Bool) → firstNo ((8, b) ∷ []) ≡ cond b 0 8
 unfolding firstNo
@@ -99,39 +100,21 @@ module _ {s : List ℕ} {h : Header} {i : ℕ} (a : ShelfAsks s h i) where
 
     -- refused by question 12, 13 or 14
     pub track-refused : (q : ℕ) → counts.refusal q ≡ summary (h .delta) answer → Answered h s i answer q s
-    track-refused q e = go answer refl e
-      where
-        go : (x : FileAnswer) → answer ≡ x → counts.refusal q ≡ summary (h .delta) x → Answered h s i answer q s
-        go (refused n) f e =
-            let g : q ≡ n = cc in
-            let k : (9 ≤ n) × (n ≤ 14) = rw f at sound in
-            answered-refused h s i answer q (ap (answerNumber h) f ∙ refused-is h n ∙ sym g) (omega arith)
-        go (read r) f e = absurd (let z : _≡_ {A = ℕ} 0 1 = cc in omega arith)
+    track-refused q e =
+        let f = refused-is (h .delta) q answer e in
+        let k : (9 ≤ q) × (q ≤ 14) = rw f at sound in
+        answered-refused h s i answer q (ap (answerNumber h) f ∙ number-refused h q) (omega arith)
 
     -- read as a recording of so many beats, notes and cells
-    pub record IsRecording (beats notes cells : ℕ) : Type 0 where
-      pub whole : Recording
-      pub reads : answer ≡ read whole
-      pub beats-are : beats ≡ whole .beats
-      pub notes-are : notes ≡ length (whole .notes)
-      pub cells-are : cells ≡ length (gather (cellsOfNote (h .delta)) (whole .notes))
-
-    pub is-recording : {beats notes cells : ℕ} → recording beats notes cells ≡ summary (h .delta) answer → IsRecording beats notes cells
-    is-recording {beats} {notes} {cells} e = go answer refl e
-      where
-        go : (x : FileAnswer) → answer ≡ x → recording beats notes cells ≡ summary (h .delta) x → IsRecording beats notes cells
-        go (refused n) f e = absurd (let z : _≡_ {A = ℕ} 0 1 = cc in omega arith)
-        go (read r) f e = record { whole = r; reads = f; beats-are = cc; notes-are = cc; cells-are = cc }
-
     module _ {beats notes cells : ℕ} (e : recording beats notes cells ≡ summary (h .delta) answer) where
-      k : IsRecording beats notes cells
-      k = is-recording e
+      k : ReadAs (h .delta) answer beats notes cells
+      k = recording-is (h .delta) beats notes cells answer e
 
       number-is : answerNumber h answer ≡ cond (leb (wordsUsed notes cells) (h .words)) 0 8
       number-is =
-          let v : Valid (h .delta) (k .whole) = rw (k .reads) at sound in
-          ap (answerNumber h) (k .reads) ∙ read-is h (k .whole) (range .some-ticks) v
-          ∙ ap (λ (n : ℕ). cond (leb (wordsUsed n (length (gather (cellsOfNote (h .delta)) (k .whole .notes)))) (h .words)) 0 8) (sym (k .notes-are))
+          let v : Valid (h .delta) (k .got) = rw (k .is) at sound in
+          ap (answerNumber h) (k .is) ∙ read-is h (k .got) (range .some-ticks) v
+          ∙ ap (λ (n : ℕ). cond (leb (wordsUsed n (length (gather (cellsOfNote (h .delta)) (k .got .notes)))) (h .words)) 0 8) (sym (k .notes-are))
           ∙ ap (λ (n : ℕ). cond (leb (wordsUsed notes n) (h .words)) 0 8) (sym (k .cells-are))
 
       module _ {o : Bool} (f : o ≡ leb (wordsUsed notes cells) (h .words)) where
@@ -144,13 +127,13 @@ module _ {s : List ℕ} {h : Header} {i : ℕ} (a : ShelfAsks s h i) where
         pub track-asks : not o ≡ false → {table : List ℕ} → CountsOf answer table → RecordingAsks s h i t table beats notes cells
         track-asks t c = record {
           entry = a;
-          recording = k .whole;
-          reads = k .reads;
+          recording = k .got;
+          reads = k .is;
           beats-are = k .beats-are;
           notes-are = k .notes-are;
           cells-are = k .cells-are;
           fits = track-room t;
-          counted = c .counted (k .whole) (k .reads);
+          counted = c .counted (k .got) (k .is);
         }
 
         pub track-done : not o ≡ false → {after : List ℕ} → after ≡ loaded h s i answer → Answered h s i answer 0 after
@@ -245,7 +228,7 @@ module _ (s : List ℕ) (i : ℕ) (file : List ℕ) where
     load-misplaced q f =
         let is : readFile (h .delta) file ≡ refused q = read-place (h .delta) file ∙ ap (readPlace (h .delta) file) (sym f) in
         let k = refused-number (h .delta) (range shelf-entered .some-ticks) file q is in
-        answered (refused q) is (answered-refused h s i (refused q) q (refused-is h q) (omega arith))
+        answered (refused q) is (answered-refused h s i (refused q) q (number-refused h q) (omega arith))
 
     -- the track decides
     pub load-by-track : {at end : ℕ} → bytes at end ≡ trackPlace (h .delta) file → {number : ℕ} {after : List ℕ}

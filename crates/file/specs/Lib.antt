@@ -4,5 +4,6 @@ pub mod Tracks
 pub mod Files
 pub mod Chunks
 pub mod Counting
+pub mod CountingSteps
 pub mod Placing
 pub mod Loading

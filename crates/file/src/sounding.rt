@@ -3,7 +3,7 @@ ghost use mathlib.Core.Path.{_≡_};
 ghost use Prim.Native.Nat.{_<_};
 ghost use Rattle.midi.specs.Lanes.{laneAt, putLane};
 ghost use Rattle.midi.specs.Sounding.{stopLane};
-ghost use Rattle.file.specs.Counting.{sounding, laneNote, StartsAs};
+ghost use Rattle.file.specs.CountingSteps.{sounding, laneNote, StartsAs};
 use model::Note;
 
 // What sounds in a lane, as a note that ends at a tick.

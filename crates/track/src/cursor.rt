@@ -5,7 +5,7 @@ ghost use Prim.Native.Nat.{_+_, _*_, _≤_, _<_};
 ghost use lib.Dec.{leb, eqb};
 ghost use lib.ListN.{length, getD};
 ghost use Rattle.model.specs.Limits.{maxBeats, maxDelta};
-ghost use Rattle.midi.specs.Events.{channelMessage, channelAt, metaAt, sysexAt, ownStatus, behindTime, eventAt};
+ghost use Rattle.midi.specs.Events.{place, channelMessage, channelAt, metaAt, sysexAt, ownStatus, behindTime, eventAt};
 ghost use Rattle.track.specs.Reading.{messageOf, placeOf, eventOf, secondAt, overAt, endAt};
 use crate::quantities;
 use crate::quantities::Quantity;
@@ -199,6 +199,17 @@ fn behind_time(s: &[u8], tick: u32, running: u8, q: usize) -> Event
 }
 
 impl Cursor {
+    // The first byte of a track, at tick 0, with no running status.
+    pub fn start() -> Cursor
+        ensures { λ r. ⌜ placeOf r ≡ place 0 0 0 ⌝ }
+    {
+        Cursor {
+            at: 0,
+            tick: 0,
+            running: 0,
+        }
+    }
+
     // The event at this place: its time, counted from the event before it, then status and data.
     pub fn event(self, s: &[u8]) -> Event
         requires { ⌜ self .tick ≤ maxBeats * maxDelta ⌝ }

@@ -1,0 +1,104 @@
+//! Writes: of takes that lists of calls made, to outputs around the file's
+//! length, of takes at the limits, and of shelves with a damaged word.
+
+use crate::inputs;
+use crate::pair::{Counts, Pair};
+use reference::generate::notes::{self, Measures};
+use reference::random::Random;
+
+fn bytes(random: &mut Random, length: usize) -> Vec<u8> {
+    (0..length).map(|_| random.next_number() as u8).collect()
+}
+
+/// A write to outputs of every length around the file's, and around the length
+/// from which no event is counted.
+fn around(random: &mut Random, pair: &Pair, shelf: u32, counts: &mut Counts) -> Result<(), String> {
+    let notes = pair.shelf(shelf)[1] as usize;
+    let most = 29 + 14 * notes;
+    let output = bytes(random, most + 40);
+    let length = pair.write(shelf, &output, counts)? as usize;
+    let rooms = [0, 21, 22, length - 1, length, length + 1, most - 1, most, most + 1];
+    for room in rooms {
+        let count = pair.write(shelf, &output[..room], counts)? as usize;
+        let expected = if room < length { 0 } else { length };
+        if count != expected {
+            return Err(format!("write to {room} bytes: {count}, expected {expected}"));
+        }
+    }
+    Ok(())
+}
+
+/// Notes of a few lanes, touching ones among them, written from the shelf that
+/// they are laid in and from both halves of a split.
+pub fn around_the_length(random: &mut Random, counts: &mut Counts) -> Result<(), String> {
+    let delta = random.pick(&[1, 2, 3, 10, 480, 32_767]);
+    let header = [delta, random.between(1, delta), 3, 2_000];
+    let mut pair = Pair::new(inputs::words(random, 4 + 3 * 2_000));
+    pair.open(header, counts)?;
+    let beats = random.below(9);
+    let measures = Measures { delta, epsilon: header[1], beats };
+    let lanes = notes::lanes(random, 6);
+    let list = notes::list(random, &measures, &lanes);
+    if pair.lay(0, beats, &list, counts)? != 0 {
+        return Ok(());
+    }
+    pair.split(0, random.below(beats + 1), 1, 2, counts)?;
+    (0..3).try_for_each(|shelf| around(random, &pair, shelf, counts))
+}
+
+/// A note in each of some lanes, at ticks that all lanes share, in a take of
+/// so many beats.
+fn many_lanes(
+    random: &mut Random,
+    delta: u32,
+    beats: u32,
+    lanes: &[u32],
+    counts: &mut Counts,
+) -> Result<(), String> {
+    let end = delta * beats;
+    let ticks = [0, end / 3, end / 3 + 1, end - 1, end];
+    let mut list = Vec::new();
+    for &lane in lanes {
+        let first = random.below(4) as usize;
+        let last = random.between(first as u32 + 1, 4) as usize;
+        if ticks[first] < ticks[last] {
+            list.extend([lane, ticks[first], ticks[last], random.between(1, 127)]);
+        }
+    }
+    let words = inputs::words_used(delta, &list);
+    let mut pair = Pair::new(inputs::words(random, 4 + words as usize));
+    pair.open([delta, 1, 1, words], counts)?;
+    pair.lay(0, beats, &list, counts)?;
+    around(random, &pair, 0, counts)
+}
+
+/// All 2,048 lanes; and 4,096 beats of the longest, whose times take four
+/// groups.
+pub fn at_the_limits(random: &mut Random, counts: &mut Counts) -> Result<(), String> {
+    let all: Vec<u32> = (0..2048).collect();
+    let beats = random.between(1, 9);
+    many_lanes(random, 10, beats, &all, counts)?;
+    let few = notes::lanes(random, 3);
+    many_lanes(random, 32_767, 4_096, &few, counts)
+}
+
+/// A shelf of any words, and a laid one with a damaged word.
+pub fn damaged(random: &mut Random, counts: &mut Counts) -> Result<(), String> {
+    let header = inputs::header(random);
+    let length = inputs::length(random, header);
+    let mut pair = Pair::new(inputs::words(random, length));
+    let output = bytes(random, 600);
+    pair.write(random.below(4), &output, counts)?;
+    if pair.open(header, counts)? != 0 {
+        return Ok(());
+    }
+    let beats = inputs::beats(random);
+    let list = inputs::list(random, header, beats);
+    pair.lay(0, beats, &list, counts)?;
+    pair.write(random.below(header[2] + 2), &output, counts)?;
+    let place = random.below(length as u32) as usize;
+    pair.set(place, inputs::damaged(random, pair.second[place]));
+    let room = random.below(601) as usize;
+    pair.write(0, &output[..room], counts)?;
+    Ok(())
+}
