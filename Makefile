@@ -1,9 +1,21 @@
 # The take editor's engine.
-#   make run    proves the crates and shows the table of cases
-#   make test   the gate: everything from nothing; its last line is 'N passed, 0 failed'
+#   make          proves the crates and builds the C library, build/libzikorewi.a
+#   make run      proves the crates, then shows the paper's table of cases
+#   make test     the gate: everything from nothing; its last line is 'N passed, 0 failed'
+#   make install  header, library, pkg-config file and program below PREFIX
 CARGO = cargo --offline
+PREFIX ?= /usr/local
+VERSION = 0.1
+ARCHIVES = target/staticlib/libbeat.a target/staticlib/libfile.a
 
-.PHONY: run test prove clean
+.PHONY: library run test prove install clean
+
+library: prove
+	rt staticlib beat
+	rt staticlib file
+	@mkdir -p build
+	rm -f build/libzikorewi.a
+	@{ echo 'create build/libzikorewi.a'; for a in $(ARCHIVES); do echo "addlib $$a"; done; echo 'save'; echo 'end'; } | ar -M
 
 run: prove
 	@echo
@@ -15,6 +27,13 @@ prove:
 
 test:
 	@bash tests/gate.sh
+
+install: library
+	install -d $(DESTDIR)$(PREFIX)/include $(DESTDIR)$(PREFIX)/lib/pkgconfig
+	install -m 644 include/zikorewi.h $(DESTDIR)$(PREFIX)/include/
+	install -m 644 build/libzikorewi.a $(DESTDIR)$(PREFIX)/lib/
+	printf 'prefix=%s\nincludedir=$${prefix}/include\nlibdir=$${prefix}/lib\n\nName: zikorewi\nDescription: cuts and joins takes of MIDI notes on beat lines\nVersion: %s\nCflags: -I$${includedir}\nLibs: -L$${libdir} -lzikorewi\n' \
+		'$(PREFIX)' '$(VERSION)' > $(DESTDIR)$(PREFIX)/lib/pkgconfig/zikorewi.pc
 
 clean:
 	rm -rf target build reference/target compare/target

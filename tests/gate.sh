@@ -44,6 +44,7 @@ step proofs last_line rt ci
 step reference cargo_results cargo test --offline --manifest-path reference/Cargo.toml
 step beat-archive status_only rt staticlib beat
 step file-archive status_only rt staticlib file
+step library last_line bash tests/library.sh
 step comparison status_only cargo run --offline --quiet --release --manifest-path compare/Cargo.toml
 
 echo "$passed passed, $failed failed"
