@@ -110,10 +110,11 @@ fn read_over(s: &[u8], tick: u32, n: u32, p: usize) -> Event
     if s.len() - p < count {
         return Event::Illegal;
     }
+    let running: u8 = 0;
     let next = Cursor {
         at: p + count,
         tick: tick,
-        running: 0,
+        running: running,
     };
     Event::Legal(next, Message::Passed)
 }

@@ -16,12 +16,12 @@ returns : tie.Need-returns
 returns c = over-cut _ _ _ _ (omega (arith, c .if1 .taken, c .before .pre))
 
 -- src/cursor.rt:117:13
-add-t7 : tie.Need-add-t7
-add-t7 c = search needs
+add-t8 : tie.Need-add-t8
+add-t8 c = search needs
 
 -- src/cursor.rt:108:1
 returns-2 : tie.Need-returns-2
 returns-2 c = over-on _ _ _ _ (omega (arith, c .if1 .left, c .before .pre))
 
 pub read-over-spec : {M : Type 1} → statement M
-read-over-spec = tie.close (tie.spec sub-if1 returns add-t7 returns-2)
+read-over-spec = tie.close (tie.spec sub-if1 returns add-t8 returns-2)
