@@ -1,0 +1,3 @@
+pub mod answers;
+pub mod calls;
+pub mod digits;
