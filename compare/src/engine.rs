@@ -26,6 +26,13 @@ unsafe extern "C" {
         right: u32,
     ) -> u32;
     fn take_join(session: *mut u32, words: usize, first: u32, second: u32, result: u32) -> u32;
+    fn take_load(
+        session: *mut u32,
+        words: usize,
+        shelf: u32,
+        file: *const u8,
+        file_bytes: usize,
+    ) -> u32;
     fn take_write(
         session: *const u32,
         words: usize,
@@ -59,16 +66,14 @@ pub fn join(session: &mut [u32], first: u32, second: u32, result: u32) -> u32 {
     unsafe { take_join(session.as_mut_ptr(), session.len(), first, second, result) }
 }
 
+pub fn load(session: &mut [u32], shelf: u32, file: &[u8]) -> u32 {
+    // SAFETY: pointers and lengths are those of two lent slices that share nothing.
+    unsafe { take_load(session.as_mut_ptr(), session.len(), shelf, file.as_ptr(), file.len()) }
+}
+
 pub fn write(session: &[u32], shelf: u32, output: &mut [u8], count: &mut u64) -> u32 {
     // SAFETY: pointers and lengths are those of two lent slices that share nothing, and of a lent number.
     unsafe {
-        take_write(
-            session.as_ptr(),
-            session.len(),
-            shelf,
-            output.as_mut_ptr(),
-            output.len(),
-            count,
-        )
+        take_write(session.as_ptr(), session.len(), shelf, output.as_mut_ptr(), output.len(), count)
     }
 }

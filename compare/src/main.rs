@@ -7,6 +7,7 @@ mod engine;
 mod guarded;
 mod inputs;
 mod joins;
+mod loads;
 mod pair;
 mod writes;
 
@@ -127,12 +128,18 @@ fn one_round(round: u64, counts: &mut Counts, seen: &mut Broken) -> Result<(), S
     joins::free_takes(random, counts)?;
     joins::broken_shelves(random, counts, seen)?;
     joins::random_words(random, counts)?;
+    loads::as_laid(random, counts)?;
+    loads::just_fitting(random, counts)?;
+    loads::any_bytes(random, counts)?;
     writes::around_the_length(random, counts)?;
     writes::damaged(random, counts)?;
     if round % 500 == 0 {
+        loads::each_number(random, counts)?;
+        loads::at_the_limits(random, counts)?;
         writes::at_the_limits(random, counts)?;
     }
     if round % 50 == 0 {
+        loads::cut_off(random, counts)?;
         joins::long_list(random, counts)?;
     }
     Ok(())
@@ -147,12 +154,14 @@ fn compare(rounds: u64) -> Result<(Counts, Broken), String> {
     Ok((counts, seen))
 }
 
-/// What all rounds must have met: joins and writes with every number that they
-/// can give, and each clause of soundness broken alone.
+/// What all rounds must have met: joins, loads and writes with every number
+/// that they can give, and each clause of soundness broken alone.
 fn has_met_all(counts: &Counts, seen: &Broken) -> bool {
     let joins = [0, 1, 2, 3, 4, 6, 8];
+    let loads = [0, 1, 2, 8, 9, 10, 11, 12, 13, 14];
     let writes = [0, 1, 2, 4, 15];
     joins.iter().all(|&number| counts.join[number] > 0)
+        && loads.iter().all(|&number| counts.load[number] > 0)
         && writes.iter().all(|&number| counts.write[number] > 0)
         && seen.alone.len() == CLAUSES
 }
@@ -172,9 +181,10 @@ fn main() -> ExitCode {
             ExitCode::FAILURE
         }
         Ok((counts, seen)) => {
-            let Counts { open, lay, split, join, write } = counts;
-            let calls: u64 = open.iter().chain(&lay).chain(&split).chain(&join).chain(&write).sum();
-            println!("{calls} calls agree; by number: open {open:?}, lay {lay:?}, split {split:?}, join {join:?}, write {write:?}");
+            let Counts { open, lay, split, join, load, write } = counts;
+            let beats = open.iter().chain(&lay).chain(&split).chain(&join);
+            let calls: u64 = beats.chain(&load).chain(&write).sum();
+            println!("{calls} calls agree; by number: open {open:?}, lay {lay:?}, split {split:?}, join {join:?}, load {load:?}, write {write:?}");
             let (alone, pairs) = (seen.alone.len(), seen.pairs.len());
             println!("joins refused for {alone} clauses broken alone and {pairs} pairs of them");
             ExitCode::SUCCESS

@@ -12,6 +12,7 @@ pub struct Counts {
     pub lay: [u64; 9],
     pub split: [u64; 6],
     pub join: [u64; 9],
+    pub load: [u64; 15],
     pub write: [u64; 16],
 }
 
@@ -108,6 +109,19 @@ impl Pair {
         Ok(number)
     }
 
+    pub fn load(&mut self, shelf: u32, file: &[u8], counts: &mut Counts) -> Result<u32, String> {
+        let bytes = Guarded::new(file);
+        let number = engine::load(self.proved.inside_mut(), shelf, bytes.inside());
+        let expected = reference::load(&mut self.second, shelf, file);
+        let call = format!("load {shelf} {file:X?}");
+        self.agreed(&call, number, expected)?;
+        if !bytes.holds(file) {
+            return Err(format!("{call}: the file is changed"));
+        }
+        counts.load[number as usize] += 1;
+        Ok(number)
+    }
+
     /// A write to an output that holds `output`.
     pub fn write(&self, shelf: u32, output: &[u8], counts: &mut Counts) -> Result<u64, String> {
         let (mut bytes, mut expected_bytes) = (Guarded::new(output), output.to_vec());
@@ -118,13 +132,15 @@ impl Pair {
         let call = format!("write {shelf} to {} bytes", output.len());
         self.agreed(&call, number, expected)?;
         if count != expected_count || !bytes.holds(&expected_bytes) {
-            return Err(format!("{call}: {count} bytes, expected {expected_count}, or other bytes"));
+            return Err(format!(
+                "{call}: {count} bytes, expected {expected_count}, or other bytes"
+            ));
         }
         counts.write[number as usize] += 1;
         Ok(count)
     }
 
-    /// A lay, split or join; other calls are passed over.
+    /// A lay, split, join or load; other calls are passed over.
     pub fn perform(&mut self, call: &Call, counts: &mut Counts) -> Result<(), String> {
         match call {
             Call::Lay { shelf, beats, notes } => self.lay(*shelf, *beats, notes, counts)?,
@@ -132,6 +148,7 @@ impl Pair {
                 self.split(*take, *beat, *left, *right, counts)?
             }
             Call::Join { first, second, result } => self.join(*first, *second, *result, counts)?,
+            Call::Load { shelf, file } => self.load(*shelf, file, counts)?,
             _ => 0,
         };
         Ok(())

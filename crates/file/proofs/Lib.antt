@@ -4,3 +4,12 @@ pub mod EventLoops
 pub mod Shelves
 pub mod Written
 pub mod Parts
+pub mod ChunkLoops
+pub mod Tallies
+pub mod FirstPass
+pub mod Answers
+pub mod Places
+pub mod Replays
+pub mod PlacingLoop
+pub mod LaidRecordings
+pub mod Loads

@@ -13,9 +13,9 @@ use model::Header;
 use track::bytes;
 
 // MThd, MTrk: the names of chunks.
-const MTHD: u32 = 1297377380;
+pub const MTHD: u32 = 1297377380;
 
-const MTRK: u32 = 1297379947;
+pub const MTRK: u32 = 1297379947;
 
 // The lanes up to the last note's, one at least.
 fn lanes_up_to(s: &[u32], count: usize) -> usize

@@ -1,4 +1,9 @@
-// The calls on files, exported to C: write.
+// The calls on files, exported to C: load and write.
+pub mod chunks;
+pub mod counting;
 pub mod files;
+pub mod loading;
+pub mod placing;
+pub mod sounding;
 pub mod tracks;
 pub mod writing;

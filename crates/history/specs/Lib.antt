@@ -4,3 +4,4 @@ pub mod Steps
 pub mod Claim
 pub mod Reached
 pub mod RoundTrip
+pub mod Rewriting

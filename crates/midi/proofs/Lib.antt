@@ -1,7 +1,5 @@
 pub mod Branches
 pub mod Tables
-pub mod NumberSteps
-pub mod EventSteps
 pub mod Legal
 pub mod Loops
 pub mod Files
@@ -11,7 +9,6 @@ pub mod Replay
 pub mod Ranges
 pub mod Sorting
 pub mod NoteEvents
-pub mod Merging
 pub mod Lengths
 pub mod Playing
 pub mod RoundTrip

@@ -1,3 +1,5 @@
 -- What the proofs of several functions share.
 pub mod Groups
 pub mod Messages
+pub mod ReadGroups
+pub mod Parts

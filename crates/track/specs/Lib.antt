@@ -1,2 +1,3 @@
--- Events as numbers.
+-- Events as numbers, and what the reader answers.
 pub mod Keys
+pub mod Reading

@@ -1,3 +1,5 @@
-// Events as bytes: a time and three bytes, written one event at a time.
+// Events as bytes: written one event at a time, and read by a cursor.
 pub mod bytes;
+pub mod cursor;
 pub mod putting;
+pub mod quantities;
