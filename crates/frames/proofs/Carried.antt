@@ -7,8 +7,8 @@ use native.Mathlib.Nat.{mul-le-mul}
 use native.Mathlib.Omega.{arith}
 use borrow.Author.Tests.{le-leb, lt-leb, eq-eqb, ne-eqb, leb-true}
 use lib.Dec.{leb, eqb}
-use lib.ListN.{length, take, drop, replicate, length-append, length-replicate, take-append-drop}
-use lib.Seq.{length-take-le}
+use lib.ListN.{length, take, drop, replicate, length-append, length-replicate, length-drop, take-append-drop}
+use lib.Seq.{length-take-le, take-all}
 use Rattle.words.specs.Splice.{splice, splice-parts}
 use Rattle.words.specs.Parts.{part-splice-written}
 use Rattle.model.specs.Session.{headerOf, shelf, sessionLength, wordsOfHeader, freshWords}
@@ -19,9 +19,9 @@ use Rattle.model.specs.declared.Header.{Header}
 use Rattle.laws.specs.Accepted.{yes-all}
 use Rattle.laws.specs.Booleans.{and-no}
 use Rattle.midi.specs.Numbers.{word32}
-use Rattle.file.specs.Calls.{shelfFile, fileFits, writeQuestions, writeNumber, writeCount, writeOutput}
+use Rattle.file.specs.Calls.{shelfFile, fileFits, writeQuestions, writeNumber, writeCount, writeOutput, loadNumber, loadAfter}
 use Rattle.beat.proofs.Opens.{open-refused, open-done}
-use Rattle.frames.specs.Lines.{Frame, malformed, openFrame, layFrame, splitFrame, joinFrame, writeFrame, arguments, withWords, openOf, layOf, splitOf, joinOf, writeOf}
+use Rattle.frames.specs.Lines.{Frame, malformed, openFrame, layFrame, splitFrame, joinFrame, writeFrame, loadFrame, arguments, withWords, openOf, layOf, splitOf, joinOf, writeOf, loadOf}
 use Rattle.frames.specs.Answers.{opens, numberOf, sessionAfter, fileAfter}
 use Rattle.frames.specs.Calling.{Changed, Wrote, Opened}
 
@@ -65,6 +65,19 @@ module _ (s bytes : List ℕ) where
   unfolding layOf numberOf sessionAfter fileAfter
   lay-done low whole a b c d done =
       rw (le-leb 8 (length bytes) low, eq-eqb (length bytes % 4) 0 whole, ← a, ← b, ← c, ← d) (record { number = done .0; session = done .1; file = refl })
+
+  pub load-short : length bytes < 4 → Changed s (loadOf bytes) s 255
+  unfolding loadOf
+  load-short h = nothing s (rw (lt-leb 4 (length bytes) h))
+
+  pub load-done : 4 ≤ length bytes → {i : ℕ} → i ≡ word32 bytes 0 → {t : List ℕ} {q : ℕ}
+      → (q ≡ loadNumber s i (take (length bytes - 4) (drop 4 bytes))) × (t ≡ loadAfter s i (take (length bytes - 4) (drop 4 bytes)))
+      → Changed s (loadOf bytes) t q
+  unfolding loadOf numberOf sessionAfter fileAfter
+  load-done low {i} a {t} {q} done =
+      let whole : take (length bytes - 4) (drop 4 bytes) ≡ drop 4 bytes = take-all (length bytes - 4) (drop 4 bytes) (omega (arith, length-drop 4 bytes)) in
+      rw (le-leb 4 (length bytes) low, ← a)
+      (record { number = done .0 ∙ ap (loadNumber s i) whole; session = done .1 ∙ ap (loadAfter s i) whole; file = refl })
 
 -- ---- write
 

@@ -10,12 +10,17 @@ use lib.ListN.{length, getD, set, take, drop, length-append}
 use lib.Seq.{length-take-le, take-all}
 use Rattle.words.specs.Splice.{splice, splice-append, splice-snoc}
 use Rattle.model.specs.Machine.{layCall, splitCall, joinCall}
-use Rattle.model.specs.Questions.{questions, firstNo, number}
+use Rattle.model.specs.Questions.{headerOk, questions, firstNo, number}
+use Rattle.model.specs.Session.{headerOf}
+use Rattle.model.specs.declared.Header.{Header}
 use Rattle.laws.specs.Relations.{All}
+use Rattle.model.proofs.Headers.{in-range}
+use Rattle.midi.specs.Reading.{FileAnswer, refused, read, readFile}
+use Rattle.midi.proofs.Recordings.{refused-number}
 use Rattle.midi.specs.Numbers.{word32}
-use Rattle.file.specs.Calls.{writeQuestions, writeNumber}
+use Rattle.file.specs.Calls.{writeQuestions, writeNumber, fileQuestions, loadQuestions, loadNumber}
 use Rattle.frames.specs.Digits.{byteDigits, digitsOf}
-use Rattle.frames.specs.Lines.{Frame, malformed, openFrame, layFrame, splitFrame, joinFrame, writeFrame, withWords, openOf, layOf, splitOf, joinOf, writeOf, changeOf, callOf, frameOf, decoded, frameIn}
+use Rattle.frames.specs.Lines.{Frame, malformed, openFrame, layFrame, splitFrame, joinFrame, writeFrame, loadFrame, withWords, openOf, layOf, splitOf, joinOf, writeOf, loadOf, changeOf, callOf, frameOf, decoded, frameIn}
 use Rattle.frames.specs.Answers.{opens, numberOf, sessionAfter, fileAfter, answerOf}
 use Rattle.frames.specs.Calling.{Changed, Wrote, Opened}
 use Rattle.frames.specs.Answering.{Put, Answers}
@@ -35,13 +40,30 @@ one-few : (b : Bool) → cond b 0 1 ≤ 255
 one-few true = omega arith
 one-few false = omega arith
 
+-- a file is refused with 9 to 14
+file-few : (h : Header) (file : List ℕ) → 1 ≤ h .delta → All (λ q. q .0 ≤ 255) (fileQuestions h (readFile (h .delta) file))
+unfolding fileQuestions
+file-few h file some = go (readFile (h .delta) file) refl where
+  go : (a : FileAnswer) → readFile (h .delta) file ≡ a → All (λ q. q .0 ≤ 255) (fileQuestions h a)
+  go (refused n) e = (omega (arith, refused-number (h .delta) some file n e), tt)
+  go (read r) e = (omega arith, tt)
+
+-- the number of a load: where question 1 is answered yes, a beat has a tick
+load-few : (s : List ℕ) (i : ℕ) (file : List ℕ) → loadNumber s i file ≤ 255
+unfolding loadNumber loadQuestions firstNo
+load-few s i file = go (headerOk (headerOf s) (length s)) refl where
+  go : (b : Bool) → headerOk (headerOf s) (length s) ≡ b → loadNumber s i file ≤ 255
+  go true e = first-few (loadQuestions s i file) (omega arith, (omega arith, file-few (headerOf s) file (in-range {h = headerOf s} e .some-ticks)))
+  go false e = rw (e, loadNumber) (omega arith)
+
 pub number-few : (s : List ℕ) (f : Frame) → numberOf s f ≤ 255
-unfolding numberOf number questions writeNumber writeQuestions
+unfolding numberOf number questions writeNumber writeQuestions loadNumber loadQuestions
 number-few s malformed = omega arith
 number-few s (openFrame h) = one-few (opens h)
 number-few s (layFrame i beats ws) = first-few (questions s (layCall i beats ws)) (omega arith)
 number-few s (splitFrame i k l r) = first-few (questions s (splitCall i k l r)) (omega arith)
 number-few s (joinFrame i j k) = first-few (questions s (joinCall i j k)) (omega arith)
+number-few s (loadFrame i file) = load-few s i file
 number-few s (writeFrame i) = first-few (writeQuestions s i 8192) (omega arith)
 
 pub changed-few : {s : List ℕ} {f : Frame} {t : List ℕ} {r : ℕ} → Changed s f t r → r ≤ 255
@@ -68,9 +90,13 @@ module _ {c : ℕ} (bytes : List ℕ) where
   unfolding changeOf
   change-join e = rw (ne-eqb c 2 (omega arith), ne-eqb c 3 (omega arith), eq-eqb c 4 e)
 
-  pub change-unknown : (c ≡ 2 → ⊥) → (c ≡ 3 → ⊥) → (c ≡ 4 → ⊥) → changeOf c bytes ≡ malformed
+  pub change-load : c ≡ 6 → changeOf c bytes ≡ loadOf bytes
   unfolding changeOf
-  change-unknown a b d = rw (ne-eqb c 2 a, ne-eqb c 3 b, ne-eqb c 4 d)
+  change-load e = rw (ne-eqb c 2 (omega arith), ne-eqb c 3 (omega arith), ne-eqb c 4 (omega arith), eq-eqb c 6 e)
+
+  pub change-unknown : (c ≡ 2 → ⊥) → (c ≡ 3 → ⊥) → (c ≡ 4 → ⊥) → (c ≡ 6 → ⊥) → changeOf c bytes ≡ malformed
+  unfolding changeOf
+  change-unknown a b d f = rw (ne-eqb c 2 a, ne-eqb c 3 b, ne-eqb c 4 d, ne-eqb c 6 f)
 
 -- the bytes behind the call byte
 abbrev pub behind : List ℕ → List ℕ

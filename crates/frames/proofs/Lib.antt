@@ -4,3 +4,4 @@ pub mod Values
 pub mod Words
 pub mod Carried
 pub mod Dispatch
+pub mod Inputs

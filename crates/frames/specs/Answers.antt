@@ -8,9 +8,9 @@ use Rattle.model.specs.Session.{sessionLength, freshWords}
 use Rattle.model.specs.Machine.{layCall, splitCall, joinCall}
 use Rattle.model.specs.Questions.{headerOk, number, after}
 use Rattle.model.specs.declared.Header.{Header}
-use Rattle.file.specs.Calls.{shelfFile, writeNumber}
+use Rattle.file.specs.Calls.{shelfFile, writeNumber, loadNumber, loadAfter}
 use Rattle.frames.specs.Digits.{byteDigits, digitsOf}
-use Rattle.frames.specs.Lines.{Frame, malformed, openFrame, layFrame, splitFrame, joinFrame, writeFrame, frameIn}
+use Rattle.frames.specs.Lines.{Frame, malformed, openFrame, layFrame, splitFrame, joinFrame, writeFrame, loadFrame, frameIn}
 
 -- Its session has at most 8,192 words, its output 8,192 bytes.
 abbrev pub maxSession : ℕ
@@ -30,23 +30,25 @@ opens h = leb (sessionLength h) maxSession && headerOk h (sessionLength h)
 
 -- The number of a frame.
 unfoldable pub numberOf : List ℕ → Frame → ℕ
-unfolding opens number writeNumber
+unfolding opens number writeNumber loadNumber
 numberOf s malformed = malformedNumber
 numberOf s (openFrame h) = cond (opens h) 0 1
 numberOf s (layFrame i beats ws) = number s (layCall i beats ws)
 numberOf s (splitFrame i k l r) = number s (splitCall i k l r)
 numberOf s (joinFrame i j k) = number s (joinCall i j k)
 numberOf s (writeFrame i) = writeNumber s i outputBytes
+numberOf s (loadFrame i file) = loadNumber s i file
 
 -- The session after it: a refused open keeps the earlier session, an accepted one starts afresh.
 unfoldable pub sessionAfter : List ℕ → Frame → List ℕ
-unfolding opens freshWords after
+unfolding opens freshWords after loadAfter
 sessionAfter s malformed = s
 sessionAfter s (openFrame h) = cond (opens h) (freshWords h) s
 sessionAfter s (layFrame i beats ws) = after s (layCall i beats ws)
 sessionAfter s (splitFrame i k l r) = after s (splitCall i k l r)
 sessionAfter s (joinFrame i j k) = after s (joinCall i j k)
 sessionAfter s (writeFrame i) = s
+sessionAfter s (loadFrame i file) = loadAfter s i file
 
 -- The written file, if it is a write that returned 0.
 unfoldable pub fileAfter : List ℕ → Frame → List ℕ
@@ -56,6 +58,7 @@ fileAfter s (openFrame h) = []
 fileAfter s (layFrame i beats ws) = []
 fileAfter s (splitFrame i k l r) = []
 fileAfter s (joinFrame i j k) = []
+fileAfter s (loadFrame i file) = []
 fileAfter s (writeFrame i) = elim (writeNumber s i outputBytes) [ zero ↦ shelfFile s i | suc n ↦ [] ]
 
 -- One line: the number in two hexadecimal digits, then a written file; a line feed.

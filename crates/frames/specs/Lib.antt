@@ -4,3 +4,6 @@ pub mod Lines
 pub mod Answers
 pub mod Calling
 pub mod Answering
+pub mod Input
+pub mod Blocks
+pub mod Examples

@@ -17,6 +17,7 @@ pub data Frame : Type 0 where
   splitFrame : ℕ → ℕ → ℕ → ℕ → Frame
   joinFrame : ℕ → ℕ → ℕ → Frame
   writeFrame : ℕ → Frame
+  loadFrame : ℕ → List ℕ → Frame
 
 -- ---- the bytes of a line
 
@@ -77,12 +78,17 @@ unfoldable pub writeOf : List ℕ → Frame
 unfolding withWords
 writeOf bytes = withWords 1 bytes (writeFrame (argument bytes 0))
 
+-- Load: shelf, then file bytes.
+unfoldable pub loadOf : List ℕ → Frame
+loadOf bytes = cond (leb 4 (length bytes)) (loadFrame (argument bytes 0) (drop 4 bytes)) malformed
+
 -- The calls that change an open session.
 unfoldable pub changeOf : ℕ → List ℕ → Frame
-unfolding layOf splitOf joinOf
-changeOf c bytes = cond (eqb c 2) (layOf bytes) (cond (eqb c 3) (splitOf bytes) (cond (eqb c 4) (joinOf bytes) malformed))
+unfolding layOf splitOf joinOf loadOf
+changeOf c bytes =
+    cond (eqb c 2) (layOf bytes) (cond (eqb c 3) (splitOf bytes) (cond (eqb c 4) (joinOf bytes) (cond (eqb c 6) (loadOf bytes) malformed)))
 
--- The frame of a call byte (01 open, 02 lay, 03 split, 04 join, 05 write; another is malformed) and the bytes behind it.
+-- The frame of a call byte (01 open, 02 lay, 03 split, 04 join, 05 write, 06 load; another is malformed) and the bytes behind it.
 unfoldable pub callOf : ℕ → List ℕ → Frame
 unfolding openOf writeOf changeOf
 callOf c bytes = cond (eqb c 1) (openOf bytes) (cond (eqb c 5) (writeOf bytes) (changeOf c bytes))

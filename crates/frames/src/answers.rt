@@ -32,6 +32,9 @@ fn change(session: &mut [u32], call: u8, bytes: &[u8]) -> u32
     if call == 4 {
         return calls::join(session, bytes);
     }
+    if call == 6 {
+        return calls::load(session, bytes);
+    }
     255
 }
 

@@ -4,13 +4,14 @@ ghost use Prim.Native.Nat.{_+_, _-_, _*_, _/_, _≤_};
 ghost use lib.ListN.{length, take};
 ghost use Rattle.words.specs.Splice.{splice};
 ghost use Rattle.midi.specs.Numbers.{word16, word32};
-ghost use Rattle.frames.specs.Lines.{arguments, openFrame, openOf, layOf, splitOf, joinOf, writeOf};
+ghost use Rattle.frames.specs.Lines.{arguments, openFrame, openOf, layOf, splitOf, joinOf, writeOf, loadOf};
 ghost use Rattle.frames.specs.Answers.{maxSession, outputBytes};
 ghost use Rattle.frames.specs.Calling.{Changed, Wrote, Opened};
 use beat::joining;
 use beat::laying;
 use beat::opening;
 use beat::splitting;
+use file::loading;
 use file::writing;
 
 // The number of a malformed line.
@@ -96,6 +97,16 @@ pub fn join(session: &mut [u32], bytes: &[u8]) -> u32
         word_at(bytes, 4),
         word_at(bytes, 8),
     )
+}
+
+// Load: shelf, then the bytes of a file.
+pub fn load(session: &mut [u32], bytes: &[u8]) -> u32
+    ensures { λ r. ⌜ Changed (now (session .entry)) (loadOf (now (bytes .entry))) (now (session .exit)) r ⌝ }
+{
+    if bytes.len() < 4 {
+        return MALFORMED;
+    }
+    loading::take_load(session, word_at(bytes, 0), &bytes[4..])
 }
 
 // What open and write return besides a number: the length of the session in words, or of the file in bytes.
