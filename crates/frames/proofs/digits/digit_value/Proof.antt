@@ -1,0 +1,38 @@
+-- `frames::digits::digit_value` meets its contract. Assumes nothing.
+use Rattle.frames.proofs.Values.{value-below, value-figure, value-between, value-letter, value-above}
+use borrow.Author.Needs.{needs}
+use borrow.Author.Tests.{lt-leb, le-leb}
+use native.Mathlib.Omega.{arith}
+use mathlib.Core.Path.{refl}
+use Rattle.frames.specs.Digits.{digitValue}
+use Rattle.frames.proofs.digits.digit_value.Statement.{statement}
+use Rattle.frames.proofs.digits.digit_value.Tie as tie
+use Rattle.frames.proofs.digits.digit_value.Reads as reads
+use Rattle.frames.proofs.digits.digit_value.Lts as lts
+
+-- src/digits.rt:14:9
+returns : tie.Need-returns
+returns c = value-below _ (omega arith)
+
+-- src/digits.rt:17:9
+returns-2 : tie.Need-returns-2
+returns-2 c = value-figure _ (omega arith) (omega arith)
+
+-- src/digits.rt:20:9
+returns-3 : tie.Need-returns-3
+returns-3 c = value-between _ (omega arith) (omega arith)
+
+-- src/digits.rt:23:16
+sub-result : tie.Need-sub-result
+sub-result c = search needs
+
+-- src/digits.rt:23:9
+returns-4 : tie.Need-returns-4
+returns-4 c = value-letter _ (omega arith) (omega arith)
+
+-- src/digits.rt:10:1
+returns-5 : tie.Need-returns-5
+returns-5 c = value-above _ (omega arith)
+
+pub digit-value-spec : {M : Type 1} → statement M
+digit-value-spec = tie.close (tie.spec returns returns-2 returns-3 sub-result returns-4 returns-5)

@@ -1,0 +1,4 @@
+pub mod answers;
+pub mod calls;
+pub mod digits;
+pub mod input;
