@@ -5,3 +5,4 @@ pub mod Words
 pub mod Carried
 pub mod Dispatch
 pub mod Inputs
+pub mod Programs

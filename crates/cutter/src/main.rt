@@ -1,0 +1,4 @@
+// The cutter: answers the frames of standard input.
+fn main() {
+    frames::program::run();
+}

@@ -1,0 +1,25 @@
+-- `frames::program::flush` meets its contract. Assumes nothing.
+use mathlib.Core.Path.{sym}
+use lib.Seq.{length-take-le}
+use native.Mathlib.Omega.{arith}
+use borrow.Author.Needs.{needs}
+use Rattle.frames.proofs.program.flush.Statement.{statement}
+use Rattle.frames.proofs.program.flush.Tie as tie
+use Rattle.frames.proofs.program.flush.Reads as reads
+use Rattle.frames.proofs.program.flush.Lts as lts
+use Rattle.io.proofs.write_all.Reads as write-all-reads
+
+-- src/main.rt:17:34
+slice-aggregate-write-all : tie.Need-slice-aggregate-write-all
+slice-aggregate-write-all c = sym (length-take-le _ _ (omega arith))
+
+-- src/main.rt:17:5
+write-all-requires : tie.Need-write-all-requires
+write-all-requires c κs = search needs
+
+-- src/main.rt:12:1
+returns : tie.Need-returns
+returns c = search needs
+
+pub flush-spec : {M : Type 1} → statement M
+flush-spec = tie.close (tie.spec slice-aggregate-write-all write-all-requires returns)
