@@ -51,3 +51,10 @@ writtenLast r = cond (eqb (length (r .line)) 0) [] (lineAnswer (r .session) (r .
 unfoldable pub outputOf : List ℕ → List ℕ
 unfolding writtenAll writtenLast takenAll start
 outputOf input = writtenAll start input ++ writtenLast (takenAll start input)
+
+-- ---- the same said of whole lines
+
+-- The lines of an input behind the characters l: a line feed ends a line; a last line without one is a frame if it has a character.
+unfoldable pub linesFrom : List ℕ → List ℕ → List (List ℕ)
+linesFrom l [] = cond (eqb (length l) 0) [] (l ∷ [])
+linesFrom l (c ∷ cs) = cond (eqb c 10) (l ∷ linesFrom [] cs) (linesFrom (l ++ c ∷ []) cs)

@@ -5,5 +5,6 @@ pub mod Answers
 pub mod Calling
 pub mod Answering
 pub mod Input
+pub mod Whole
 pub mod Blocks
 pub mod Examples
