@@ -213,3 +213,29 @@ pub fn at_the_limits(random: &mut Random, counts: &mut Counts) -> Result<(), Str
         number => Err(format!("load of the longest note: {number}")),
     }
 }
+
+/// A file of some megabytes: 30,000 notes, and a long chunk before the track.
+pub fn large(random: &mut Random, counts: &mut Counts) -> Result<(), String> {
+    let mut list = Vec::new();
+    for lane in 0..50 {
+        for turn in 0..600 {
+            let start = 3_000 * turn + random.below(1_000);
+            list.extend([lane, start, start + random.between(1, 2_000), random.between(1, 127)]);
+        }
+    }
+    let end = 3_000 * 600;
+    let mut file = files::file(random, 480, &list, end);
+    let header = 8 + u32::from_be_bytes([file[4], file[5], file[6], file[7]]) as usize;
+    let mut chunk = b"long\0\x20\0\0".to_vec();
+    chunk.resize(8 + 0x20_0000, 0xFF);
+    file.splice(header..header, chunk);
+    let mut pair = opened(random, [480, 60, 2, 1_048_576], counts)?;
+    let laid = pair.lay(1, end / 480, &list, counts)?;
+    if laid != 0 || pair.load(0, &file, counts)? != 0 || pair.shelf(0) != pair.shelf(1) {
+        return Err(format!("load of {} bytes: not as laid", file.len()));
+    }
+    let place = random.below(file.len() as u32) as usize;
+    file[place] ^= 0x80;
+    pair.load(0, &file, counts)?;
+    Ok(())
+}

@@ -138,6 +138,9 @@ fn one_round(round: u64, counts: &mut Counts, seen: &mut Broken) -> Result<(), S
         loads::at_the_limits(random, counts)?;
         writes::at_the_limits(random, counts)?;
     }
+    if round % 5_000 == 0 {
+        loads::large(random, counts)?;
+    }
     if round % 50 == 0 {
         loads::cut_off(random, counts)?;
         joins::long_list(random, counts)?;
