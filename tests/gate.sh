@@ -46,6 +46,7 @@ step beat-archive status_only rt staticlib beat
 step file-archive status_only rt staticlib file
 step library last_line bash tests/library.sh
 step comparison status_only cargo run --offline --quiet --release --manifest-path compare/Cargo.toml --bin compare
+step frames status_only cargo run --offline --quiet --release --manifest-path compare/Cargo.toml --bin frames
 
 echo "$passed passed, $failed failed"
 [ "$failed" -eq 0 ] && [ "$passed" -gt 0 ]

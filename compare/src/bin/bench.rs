@@ -128,7 +128,10 @@ impl Bench {
 }
 
 fn main() {
-    println!("{:>7} {:>5} {:>5}  {:<6} {:>9} {:>9} {:>6} {:>8} {:>8}", "notes", "lanes", "W", "call", "ns/note", "second", "ratio", "copy", "zeros");
+    println!(
+        "{:>7} {:>5} {:>5}  {:<6} {:>9} {:>9} {:>6} {:>8} {:>8}",
+        "notes", "lanes", "W", "call", "ns/note", "second", "ratio", "copy", "zeros"
+    );
     for wide in [false, true] {
         for lanes in [88, 2_048] {
             for notes in [100, 1_000, 10_000, 100_000] {
@@ -137,8 +140,10 @@ fn main() {
                 let mut session = bench.session.clone();
                 let mut output = vec![0; 29 + 14 * bench.list.len() / 4];
                 for call in ["lay", "split", "join", "write"] {
-                    let rounds = (2_000_000 / (notes + if wide { 200_000 } else { 0 })).clamp(20, 400);
-                    let [a, b, c, d] = best(rounds, |which| bench.time(call, which, &mut session, &mut output));
+                    let rounds =
+                        (2_000_000 / (notes + if wide { 200_000 } else { 0 })).clamp(20, 400);
+                    let [a, b, c, d] =
+                        best(rounds, |which| bench.time(call, which, &mut session, &mut output));
                     let ns = |time: f64| time * 1e9 / f64::from(notes);
                     println!(
                         "{notes:>7} {lanes:>5} {:>5}  {call:<6} {:>9.1} {:>9.1} {:>6.2} {:>8.1} {:>8.1}",
