@@ -2,13 +2,14 @@
 #   make          proves the crates and builds the C library, build/libzikorewi.a
 #   make run      proves the crates, then shows the paper's table of cases
 #   make test     the gate: everything from nothing; its last line is 'N passed, 0 failed'
+#   make bench    times the calls against the second implementation; writes docs/BENCHMARK.md
 #   make install  header, library, pkg-config file and program below PREFIX
 CARGO = cargo --offline
 PREFIX ?= /usr/local
 VERSION = 0.1
 ARCHIVES = target/staticlib/libbeat.a target/staticlib/libfile.a
 
-.PHONY: library run test prove install clean
+.PHONY: library run test prove bench install clean
 
 library: prove
 	rt staticlib beat
@@ -27,6 +28,9 @@ prove:
 
 test:
 	@bash tests/gate.sh
+
+bench: library
+	$(CARGO) run --quiet --profile fast --manifest-path compare/Cargo.toml --bin bench docs
 
 install: library
 	install -d $(DESTDIR)$(PREFIX)/include $(DESTDIR)$(PREFIX)/lib/pkgconfig

@@ -1,0 +1,87 @@
+//! One row of the table.
+
+use crate::calls::{time, Call, Place, Side};
+use crate::recording::{Recording, Size};
+
+/// The best times of a call, in nanoseconds for each note.
+pub struct Row {
+    pub size: Size,
+    pub call: Call,
+    pub proved: f64,
+    pub second: f64,
+    copy: f64,
+    zeros: f64,
+}
+
+/// Seconds that the rounds of one row take, about.
+const ROW_SECONDS: f64 = 0.5;
+
+/// At least so many rounds, and at most.
+const ROUNDS: [f64; 2] = [3.0, 400.0];
+
+/// Seconds that one measured time has at least, about.
+const LEAST_SECONDS: f64 = 50e-6;
+
+/// What the columns are called.
+pub const COLUMNS: [&str; 10] = [
+    "notes",
+    "lanes",
+    "W",
+    "call",
+    "proved ns/note",
+    "second ns/note",
+    "ratio",
+    "growth",
+    "× copy",
+    "× zeros",
+];
+
+impl Row {
+    /// Times a call by all sides in turn; of each the best time counts.
+    pub fn measure(size: Size, call: Call, recording: &Recording, places: &mut [Place; 4]) -> Row {
+        let once: f64 = Side::ALL
+            .iter()
+            .zip(places.iter_mut())
+            .map(|(&side, place)| time(call, side, 1, recording, place))
+            .sum();
+        let runs = (4.0 * LEAST_SECONDS / once).clamp(1.0, 1_000.0) as u32;
+        let rounds = (ROW_SECONDS / (once * f64::from(runs))).clamp(ROUNDS[0], ROUNDS[1]) as u32;
+        let mut best = [f64::MAX; 4];
+        for _ in 0..rounds {
+            for (which, &side) in Side::ALL.iter().enumerate() {
+                let seconds = time(call, side, runs, recording, &mut places[which]);
+                best[which] = best[which].min(seconds);
+            }
+        }
+        // A run of cuts is given for one of its calls.
+        let calls = f64::from(call.calls());
+        let [proved, second, copy, zeros] =
+            best.map(|seconds| seconds * 1e9 / f64::from(size.notes) / calls);
+        Row { size, call, proved, second, copy, zeros }
+    }
+
+    pub fn ratio(&self) -> f64 {
+        self.proved / self.second
+    }
+
+    /// Its cells; the growth is over the same call at 1,000 notes.
+    pub fn cells(&self, rows: &[Row]) -> [String; 10] {
+        let base = Size { notes: 1_000, ..self.size };
+        let growth = rows
+            .iter()
+            .find(|row| row.size == base && row.call == self.call)
+            .map_or(String::new(), |row| format!("{:.2}", self.proved / row.proved));
+        [
+            self.size.notes.to_string(),
+            self.size.lanes.to_string(),
+            if self.size.wide { "most".into() } else { "tight".into() },
+            self.call.name().into(),
+            format!("{:.1}", self.proved),
+            format!("{:.1}", self.second),
+            format!("{:.2}", self.ratio()),
+            growth,
+            format!("{:.1}", self.proved / self.copy),
+            format!("{:.1}", self.proved / self.zeros),
+        ]
+    }
+}
