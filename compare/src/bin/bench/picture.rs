@@ -6,7 +6,7 @@ use crate::row::Row;
 use std::fmt::Write;
 
 /// A panel's width and height, and the space around its axes.
-const PANEL: [f64; 2] = [260.0, 200.0];
+const PANEL: [f64; 2] = [275.0, 200.0];
 const LEFT: f64 = 40.0;
 const TOP: f64 = 30.0;
 const AXES: [f64; 2] = [200.0, 130.0];
