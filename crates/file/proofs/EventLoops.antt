@@ -55,7 +55,7 @@ pub record Counting (keys ends : List ℕ) (n end whole : ℕ) (pos t : List ℕ
   pub all : sum + length (trackLeft end last (merged keys pos ends n)) ≡ whole
 
 module _ {keys ends : List ℕ} {n end whole : ℕ} {pos t : List ℕ} {last sum : ℕ} (c : Counting keys ends n end whole pos t last sum) where
-  module _ {pos′ t′ : List ℕ} {k : ℕ} (w : Took keys pos pos′ ends t′ n k) where
+  module _ {pos′ t′ : List ℕ} {k root : ℕ} (w : Took keys pos pos′ ends t′ n k root) where
     counting-first : First end last k (merged keys pos′ ends n)
     counting-first = timed-first (rw (w .first) at (c .timed))
 
@@ -92,10 +92,10 @@ pub record Putting (keys ends : List ℕ) (n end : ℕ) (out₀ : List ℕ) (at 
 
 module _ {keys ends : List ℕ} {n end : ℕ} {out₀ : List ℕ} {at : ℕ} {whole pos t : List ℕ} {last : ℕ} {out : List ℕ} {q : ℕ}
     (p : Putting keys ends n end out₀ at whole pos t last out q) where
-  pub putting-more : {pos′ t′ out′ : List ℕ} {k r : ℕ} → Took keys pos pos′ ends t′ n k → (tick : ℕ) → tick ≡ tickOf k
+  pub putting-more : {pos′ t′ out′ : List ℕ} {k root r : ℕ} → Took keys pos pos′ ends t′ n k root → (tick : ℕ) → tick ≡ tickOf k
       → r ≡ q + length (quantityBytes (tick - last)) + 3 → out′ ≡ splice out q (quantityBytes (tick - last) ++ messageBytes (eventOf k))
       → Putting keys ends n end out₀ at whole pos′ t′ tick out′ r
-  putting-more {pos′} {t′} {out′} {k} {r} w tick d e f =
+  putting-more {pos′} {t′} {out′} {k} {root} {r} w tick d e f =
       let bytes : List ℕ = quantityBytes (tick - last) ++ messageBytes (eventOf k) in
       let left : List ℕ = trackLeft end tick (merged keys pos′ ends n) in
       let g : q + length bytes ≡ r = omega (arith, length-append (quantityBytes (tick - last)) (messageBytes (eventOf k)), message-length k) in

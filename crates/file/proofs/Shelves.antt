@@ -93,6 +93,9 @@ lanes-none s count e = record { some = omega arith; most = omega arith; each = �
 pub lanes-last : (s : List ℕ) (count : ℕ) → Ordered s count → 0 < count → LanesBelow s count (laneAt s (count - 1) + 1)
 lanes-last s count w h = record { some = omega arith; most = omega (arith, w .each (count - 1) (omega arith) .lane); each = last-lane w }
 
+pub lanes-more : {s : List ℕ} {count n m : ℕ} → LanesBelow s count n → n ≤ m → m ≤ 2048 → LanesBelow s count m
+lanes-more w h e = record { some = omega (arith, w .some); most = e; each = λ j b. omega (arith, w .each j b) }
+
 -- ---- a shelf's notes
 
 module _ {s : List ℕ} {count δ beats : ℕ} (a : FileAsks s count δ beats) where

@@ -17,7 +17,20 @@ pub const MTHD: u32 = 1297377380;
 
 pub const MTRK: u32 = 1297379947;
 
-// The lanes up to the last note's, one at least.
+// Half of so many lanes, and half of these, as long as they are enough: with a power of two every leaf of the tree has equally many nodes
+// above it.
+fn halved(lanes: usize, most: usize) -> usize
+    requires { ⌜ (0 < lanes) × (lanes ≤ most) ⌝ }
+    ensures { λ r. ⌜ (lanes ≤ r) × (r ≤ most) ⌝ }
+{
+    let mut n = most;
+    while lanes <= n / 2 {
+        n = n / 2;
+    }
+    n
+}
+
+// Enough lanes for the last note's, one at least.
 fn lanes_up_to(s: &[u32], count: usize) -> usize
     requires { ⌜ Ordered (now s) count ⌝ }
     ensures { λ r. ⌜ LanesBelow (now (s .entry)) count r ⌝ }
@@ -25,12 +38,12 @@ fn lanes_up_to(s: &[u32], count: usize) -> usize
     if count == 0 {
         return 1;
     }
-    s[4 * (count - 1)] as usize + 1
+    halved(s[4 * (count - 1)] as usize + 1, 2048)
 }
 
 // The lanes' events, and the tree of the first of each.
 fn start(s: &[u32], count: usize, n: usize, pos: &mut [u32], ends: &mut [u32], t: &mut [u64])
-    requires { ⌜ Ordered (now s) count × LanesBelow (now s) count n × (2048 ≤ length (now pos)) × (2048 ≤ length (now ends)) × (4096 ≤ length (now t)) ⌝ }
+    requires { ⌜ Ordered (now s) count × LanesBelow (now s) count n × (2048 ≤ length (now pos)) × (2048 ≤ length (now ends)) × (6144 ≤ length (now t)) ⌝ }
     ensures { λ _. ⌜ Started (now (s .entry)) count (now (pos .exit)) (now (ends .exit)) (now (t .exit)) n ⌝ }
 {
     order::runs(s, count, n, pos, ends);
@@ -49,7 +62,7 @@ fn fits(
     t: &mut [u64],
     room: usize,
 ) -> bool
-    requires { ⌜ FileAsks (now s) count delta beats × LanesBelow (now s) count n × (2048 ≤ length (now pos)) × (2048 ≤ length (now ends)) × (4096 ≤ length (now t)) ⌝ }
+    requires { ⌜ FileAsks (now s) count delta beats × LanesBelow (now s) count n × (2048 ≤ length (now pos)) × (2048 ≤ length (now ends)) × (6144 ≤ length (now t)) ⌝ }
     ensures { λ r. ⌜ r ≡ leb (length (fileOf (now (s .entry)) count delta beats)) room ⌝ }
 {
     if 29 + 14 * count <= room {
@@ -80,7 +93,7 @@ pub fn put_file(s: &[u32], count: usize, delta: u32, beats: u32, out: &mut [u8])
 {
     let mut pos = [0u32; 2048];
     let mut ends = [0u32; 2048];
-    let mut t = [0u64; 4096];
+    let mut t = [0u64; 6144];
     let n = lanes_up_to(s, count);
     if !fits(
         s,

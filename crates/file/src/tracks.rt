@@ -33,8 +33,10 @@ pub fn length_left(
 {
     let mut sum: usize = 0;
     let mut last: u32 = 0;
-    while t[1] < DONE {
-        let event = order::take(s, count, pos, ends, t, n);
+    let mut root = t[1];
+    while root < DONE {
+        let event = root;
+        root = order::take(s, count, pos, ends, t, n, event);
         let tick = tick_of(event);
         sum += putting::group_count(tick - last) as usize + 3;
         last = tick;
@@ -59,8 +61,10 @@ pub fn put_left(
 {
     let mut q = at;
     let mut last: u32 = 0;
-    while t[1] < DONE {
-        let event = order::take(s, count, pos, ends, t, n);
+    let mut root = t[1];
+    while root < DONE {
+        let event = root;
+        root = order::take(s, count, pos, ends, t, n, event);
         let tick = tick_of(event);
         q = putting::put_event(out, q, tick - last, event);
         last = tick;

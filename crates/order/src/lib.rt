@@ -70,30 +70,41 @@ pub fn runs(s: &[u32], count: usize, n: usize, pos: &mut [u32], ends: &mut [u32]
     }
 }
 
-// The tree of all lanes' first events.
+// The tree of all lanes' first events; behind it their second events.
 pub fn start(s: &[u32], count: usize, pos: &[u32], ends: &[u32], t: &mut [u64], n: usize)
-    requires { ⌜ (4 * count ≤ length (now s)) × Queues (events (now s) 0 count) (now pos) (now ends) n × (2 * n ≤ length (now t)) ⌝ }
+    requires { ⌜ (4 * count ≤ length (now s)) × Queues (events (now s) 0 count) (now pos) (now ends) n × (3 * n ≤ length (now t)) ⌝ }
     ensures { λ _. ⌜ Ready (events (now (s .entry)) 0 count) (now (pos .entry)) (now (ends .entry)) (now (t .exit)) n ⌝ }
 {
     let mut l: usize = 0;
     while l < n {
-        t[n + l] = head(s, count, pos[l] as usize, ends[l] as usize);
+        let p = pos[l] as usize;
+        let e = ends[l] as usize;
+        t[n + l] = head(s, count, p, e);
+        t[2 * n + l] = head(s, count, p + 1, e);
         l += 1;
     }
     tree::build(t, n);
 }
 
-// Takes the first event of all that are left, of which there are some.
-pub fn take(s: &[u32], count: usize, pos: &mut [u32], ends: &[u32], t: &mut [u64], n: usize) -> u64
-    requires { ⌜ (4 * count ≤ length (now s)) × Ready (events (now s) 0 count) (now pos) (now ends) (now t) n × (getD (now t) 1 0 < done) ⌝ }
-    ensures { λ r. ⌜ Took (events (now (s .entry)) 0 count) (now (pos .entry)) (now (pos .exit)) (now (ends .entry)) (now (t .exit)) n r ⌝ }
+// Takes the first event of all that are left, k, of which there are some. Returns the next one, or DONE.
+// The lane's second event stands ready for its leaf, so that the tree does not wait for a note to be read.
+pub fn take(
+    s: &[u32],
+    count: usize,
+    pos: &mut [u32],
+    ends: &[u32],
+    t: &mut [u64],
+    n: usize,
+    k: u64,
+) -> u64
+    requires { ⌜ (4 * count ≤ length (now s)) × Ready (events (now s) 0 count) (now pos) (now ends) (now t) n × (k ≡ getD (now t) 1 0) × (k < done) ⌝ }
+    ensures { λ r. ⌜ Took (events (now (s .entry)) 0 count) (now (pos .entry)) (now (pos .exit)) (now (ends .entry)) (now (t .exit)) n k r ⌝ }
 {
-    let k = t[1];
     let lane = (k / 128 % 2048) as usize;
-    let e = ends[lane];
+    let second = t[2 * n + lane];
+    let root = tree::replace(t, n, lane, second);
     let p = pos[lane] + 1;
     pos[lane] = p;
-    let next = head(s, count, p as usize, e as usize);
-    tree::replace(t, n, lane, next);
-    k
+    t[2 * n + lane] = head(s, count, p as usize + 1, ends[lane] as usize);
+    root
 }

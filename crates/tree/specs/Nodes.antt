@@ -85,6 +85,17 @@ leaf-set {t} {n} i v w f = record { at = step } where
         getD-set-other t i p v 0 (λ q. omega arith),
       ) (w .at p l m (λ r. omega arith))
 
+-- a store behind the leaves
+pub but-behind : {t : List ℕ} {n i : ℕ} (v : ℕ) → TreeBut t n 0 → 2 * n ≤ i → TreeBut (set t i v) n 0
+but-behind {t} {n} {i} v w f = record { at = step } where
+  step : (p : ℕ) → 0 < p → p < n → (p ≡ 0 → ⊥) → getD (set t i v) p 0 ≡ lesser (getD (set t i v) (2 * p) 0) (getD (set t i v) (2 * p + 1) 0)
+  step p l m d =
+      rw (
+        getD-set-other t i (2 * p) v 0 (λ q. omega arith),
+        getD-set-other t i (2 * p + 1) v 0 (λ q. omega arith),
+        getD-set-other t i p v 0 (λ q. omega arith),
+      ) (w .at p l m d)
+
 -- a store of the node below those that are done
 pub from-set : {t : List ℕ} {n j : ℕ} (i v : ℕ) → From t n j → j ≤ i + 1 → 0 < i → i < length t → v ≡ lesser (getD t (2 * i) 0) (getD t (2 * i + 1) 0) → From (set t i v) n i
 from-set {t} {n} i v w o z f e = record { at = step } where

@@ -2,7 +2,7 @@
 // the least key of all. Replacing a leaf costs a step for each level. The sons of node p stand at 2 p and 2 p + 1, n leaves at n and behind.
 ghost use mathlib.Core.Path.{_≡_};
 ghost use Prim.Native.Nat.{_*_, _≤_, _<_};
-ghost use lib.ListN.{length};
+ghost use lib.ListN.{length, getD};
 ghost use Rattle.tree.specs.Nodes.{lesser, TreeBut, LeavesKept, LeafPut};
 
 // The lesser of two keys.
@@ -25,10 +25,10 @@ pub fn build(t: &mut [u64], n: usize)
     }
 }
 
-// A leaf's key replaced, and the nodes above it.
-pub fn replace(t: &mut [u64], n: usize, leaf: usize, key: u64)
+// A leaf's key replaced, and the nodes above it. Returns the least key of all, the root's.
+pub fn replace(t: &mut [u64], n: usize, leaf: usize, key: u64) -> u64
     requires { ⌜ (leaf < n) × (2 * n ≤ length (now t)) × TreeBut (now t) n 0 ⌝ }
-    ensures { λ _. ⌜ TreeBut (now (t .exit)) n 0 × LeafPut (now (t .entry)) (now (t .exit)) n leaf key ⌝ }
+    ensures { λ r. ⌜ TreeBut (now (t .exit)) n 0 × LeafPut (now (t .entry)) (now (t .exit)) n leaf key × (r ≡ getD (now (t .exit)) 1 0) ⌝ }
 {
     let mut i = n + leaf;
     let mut v = key;
@@ -40,4 +40,5 @@ pub fn replace(t: &mut [u64], n: usize, leaf: usize, key: u64)
         t[p] = v;
         i = p;
     }
+    v
 }

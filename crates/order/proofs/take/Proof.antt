@@ -1,4 +1,4 @@
-use Rattle.order.specs.Queues.{Wins, wins, took}
+use Rattle.order.specs.Queues.{root-wins, took}
 use Rattle.order.specs.Events.{events, length-events}
 use lib.ListN.{length, getD, length-set}
 use native.Mathlib.Omega.{arith}
@@ -12,82 +12,122 @@ use Rattle.order.proofs.take.Lts as lts
 use Rattle.order.proofs.head.Reads as head-reads
 use Rattle.tree.proofs.replace.Reads as replace-reads
 
--- src/lib.rt:98:13
-slice-read-k : tie.Need-slice-read-k
-slice-read-k c = search needs
+-- src/lib.rt:104:20
+mul-second : tie.Need-mul-second
+mul-second c = search needs
 
--- src/lib.rt:100:13
-mul-e : tie.Need-mul-e
-mul-e c = search needs
+-- src/lib.rt:104:20
+add-second : tie.Need-add-second
+add-second c = search needs
 
--- src/lib.rt:100:13
-shared-slice-read-e : tie.Need-shared-slice-read-e
-shared-slice-read-e c = let w = wins (c .before .before .before .before .before .before .pre .1) (c .before .before .before .before .before .before .pre .2) in omega (arith, w .below, c .before .before .before .before .before .before .pre .1 .queues)
+-- src/lib.rt:104:18
+mul-second-2 : tie.Need-mul-second-2
+mul-second-2 c = search needs
 
--- src/lib.rt:101:13
+-- src/lib.rt:104:18
+slice-read-second : tie.Need-slice-read-second
+slice-read-second c = let w = root-wins _ (c .before .before .before .before .before .pre .1) (c .before .before .before .before .before .pre .2) (c .before .before .before .before .before .pre .3) in omega (arith, w .below, c .before .before .before .before .before .pre .1 .room)
+
+-- src/lib.rt:105:9
+replace-requires : tie.Need-replace-requires
+replace-requires c κs = let w = root-wins _ (c .before .before .before .before .before .before .pre .1) (c .before .before .before .before .before .before .pre .2) (c .before .before .before .before .before .before .pre .3) in (w .below, omega (arith, c .before .before .before .before .before .before .pre .1 .room), c .before .before .before .before .before .before .pre .1 .tree)
+
+-- src/lib.rt:106:13
 mul-p : tie.Need-mul-p
 mul-p c = search needs
 
--- src/lib.rt:101:13
+-- src/lib.rt:106:13
 slice-read-p : tie.Need-slice-read-p
-slice-read-p c = let w = wins (c .before .before .before .before .before .before .before .pre .1) (c .before .before .before .before .before .before .before .pre .2) in omega (arith, w .below, c .before .before .before .before .before .before .before .pre .1 .queues)
+slice-read-p c = let w = root-wins _ (c .before .before .before .before .before .before .before .before .before .before .pre .1) (c .before .before .before .before .before .before .before .before .before .before .pre .2) (c .before .before .before .before .before .before .before .before .before .before .pre .3) in omega (arith, w .below, c .before .before .before .before .before .before .before .before .before .before .pre .1 .queues)
 
--- src/lib.rt:101:13
+-- src/lib.rt:106:13
 add-p : tie.Need-add-p
-add-p c = let w = wins (c .before .before .before .before .before .before .before .pre .1) (c .before .before .before .before .before .before .before .pre .2) in omega (arith, w .some, c .before .shared-slice-known3 .given (getD (c .before .before .before .before .before .before .before .args .t .now) 1 0 / 128 % 2048))
+add-p c = let w = root-wins _ (c .before .before .before .before .before .before .before .before .before .before .pre .1) (c .before .before .before .before .before .before .before .before .before .before .pre .2) (c .before .before .before .before .before .before .before .before .before .before .pre .3) in omega (arith, w .some, c .before .before .before .before .before .before .before .shared-slice-known2 .given (c .before .before .before .before .before .before .before .before .before .before .args .k / 128 % 2048))
 
--- src/lib.rt:102:5
+-- src/lib.rt:107:5
 mul-pos : tie.Need-mul-pos
 mul-pos c = search needs
 
--- src/lib.rt:102:5
+-- src/lib.rt:107:5
 slice-write-pos : tie.Need-slice-write-pos
-slice-write-pos c = let w = wins (c .before .before .before .before .before .before .before .pre .1) (c .before .before .before .before .before .before .before .pre .2) in omega (arith, w .below, c .before .before .before .before .before .before .before .pre .1 .queues)
+slice-write-pos c = let w = root-wins _ (c .before .before .before .before .before .before .before .before .before .before .pre .1) (c .before .before .before .before .before .before .before .before .before .before .pre .2) (c .before .before .before .before .before .before .before .before .before .before .pre .3) in omega (arith, w .below, c .before .before .before .before .before .before .before .before .before .before .pre .1 .queues)
 
--- src/lib.rt:103:31
+-- src/lib.rt:108:38
 cast-head : tie.Need-cast-head
-cast-head c = let w = wins (c .before .before .before .before .before .before .before .pre .1) (c .before .before .before .before .before .before .before .pre .2) in omega (arith, w .some, c .before .shared-slice-known3 .given (getD (c .before .before .before .before .before .before .before .args .t .now) 1 0 / 128 % 2048))
+cast-head c = let w = root-wins _ (c .before .before .before .before .before .before .before .before .before .before .pre .1) (c .before .before .before .before .before .before .before .before .before .before .pre .2) (c .before .before .before .before .before .before .before .before .before .before .pre .3) in omega (arith, w .some, c .before .before .before .before .before .before .before .shared-slice-known2 .given (c .before .before .before .before .before .before .before .before .before .before .args .k / 128 % 2048))
 
--- src/lib.rt:103:43
+-- src/lib.rt:108:38
+add-head : tie.Need-add-head
+add-head c = let w = root-wins _ (c .before .before .before .before .before .before .before .before .before .before .pre .1) (c .before .before .before .before .before .before .before .before .before .before .pre .2) (c .before .before .before .before .before .before .before .before .before .before .pre .3) in omega (arith, w .some, c .before .before .before .before .before .before .before .shared-slice-known2 .given (c .before .before .before .before .before .before .before .before .before .before .args .k / 128 % 2048))
+
+-- src/lib.rt:108:54
+mul-head : tie.Need-mul-head
+mul-head c = search needs
+
+-- src/lib.rt:108:54
+shared-slice-read-head : tie.Need-shared-slice-read-head
+shared-slice-read-head c = let w = root-wins _ (c .before .before .before .before .before .before .before .before .before .before .before .pre .1) (c .before .before .before .before .before .before .before .before .before .before .before .pre .2) (c .before .before .before .before .before .before .before .before .before .before .before .pre .3) in omega (arith, w .below, c .before .before .before .before .before .before .before .before .before .before .before .pre .1 .queues)
+
+-- src/lib.rt:108:54
 cast-head-2 : tie.Need-cast-head-2
-cast-head-2 c = omega (arith, c .before .shared-slice-known3 .given (getD (c .before .before .before .before .before .before .before .args .t .now) 1 0 / 128 % 2048))
+cast-head-2 c = omega (arith, c .shared-slice-known3 .given (c .before .before .before .before .before .before .before .before .before .before .before .args .k / 128 % 2048))
 
--- src/lib.rt:103:9
+-- src/lib.rt:108:23
 head-requires : tie.Need-head-requires
-head-requires c κs = let w = wins (c .before .before .before .before .before .before .before .pre .1) (c .before .before .before .before .before .before .before .pre .2) in (c .before .before .before .before .before .before .before .pre .0, let a = c .before .before .before .before .before .before .before .args in let q = c .before .before .before .before .before .before .before .pre .1 .queues .each _ (w .below) in omega (arith, q .fits, length-events (a .s .now) 0 (a .count)))
+head-requires c κs = let w = root-wins _ (c .before .before .before .before .before .before .before .before .before .before .before .pre .1) (c .before .before .before .before .before .before .before .before .before .before .before .pre .2) (c .before .before .before .before .before .before .before .before .before .before .before .pre .3) in (c .before .before .before .before .before .before .before .before .before .before .before .pre .0, let a = c .before .before .before .before .before .before .before .before .before .before .before .args in let q = c .before .before .before .before .before .before .before .before .before .before .before .pre .1 .queues .each _ (w .below) in omega (arith, q .fits, length-events (a .s .now) 0 (a .count)))
 
--- src/lib.rt:104:5
-replace-requires : tie.Need-replace-requires
-replace-requires c κs = let w = wins (c .before .before .before .before .before .before .before .before .before .pre .1) (c .before .before .before .before .before .before .before .before .before .pre .2) in (w .below, c .before .before .before .before .before .before .before .before .before .pre .1 .room, c .before .before .before .before .before .before .before .before .before .pre .1 .tree)
+-- src/lib.rt:108:7
+mul-t : tie.Need-mul-t
+mul-t c = search needs
 
--- src/lib.rt:87:1
+-- src/lib.rt:108:7
+add-t : tie.Need-add-t
+add-t c = search needs
+
+-- src/lib.rt:108:5
+mul-t-2 : tie.Need-mul-t-2
+mul-t-2 c = search needs
+
+-- src/lib.rt:108:5
+slice-write-t : tie.Need-slice-write-t
+slice-write-t c = let w = root-wins _ (c .before .before .before .before .before .before .before .before .before .before .before .before .pre .1) (c .before .before .before .before .before .before .before .before .before .before .before .before .pre .2) (c .before .before .before .before .before .before .before .before .before .before .before .before .pre .3) in omega (arith, w .below, c .before .before .before .before .before .before .before .before .before .before .before .before .pre .1 .room, c .before .before .before .before .before .replace .ensures .1 .long)
+
+-- src/lib.rt:91:1
 same-length : tie.Need-same-length
 same-length c = search needs
 
--- src/lib.rt:87:1
+-- src/lib.rt:91:1
 same-length-2 : tie.Need-same-length-2
 same-length-2 c = search needs
 
--- src/lib.rt:87:1
+-- src/lib.rt:91:1
 returns : tie.Need-returns
-returns c = took (c .before .before .before .before .before .before .before .before .before .before .before .before .pre .1) (c .before .before .before .before .before .before .before .before .before .before .before .before .pre .2) (c .before .before .before .before .head .ensures) (c .before .before .replace .ensures .1) (c .before .before .replace .ensures .0)
+returns c = took _ _ _ (c .before .before .before .before .before .before .before .before .before .before .before .before .pre .1) (c .before .before .before .before .before .before .before .before .before .before .before .before .pre .2) (c .before .before .before .before .before .before .before .before .before .before .before .before .pre .3) refl (c .before .before .before .before .before .replace .ensures .1) (c .before .before .before .before .before .replace .ensures .0) (c .before .before .before .before .before .replace .ensures .2) (c .head .ensures)
 
 pub take-spec : {M : Type 1} → statement M
 take-spec =
     tie.close
     (tie.spec
-    slice-read-k
-    mul-e
-    shared-slice-read-e
+    mul-second
+    add-second
+    mul-second-2
+    slice-read-second
+    replace-requires
     mul-p
     slice-read-p
     add-p
     mul-pos
     slice-write-pos
     cast-head
+    add-head
+    mul-head
+    shared-slice-read-head
     cast-head-2
     head-requires
-    replace-requires
+    mul-t
+    add-t
+    mul-t-2
+    slice-write-t
     same-length
     same-length-2
     returns)

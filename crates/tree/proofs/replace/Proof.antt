@@ -79,7 +79,7 @@ same-length c = c .before .loop .inv .5 .long ∙ (let a = c .before .before .be
 
 -- src/lib.rt:32:1
 returns : tie.Need-returns Inv-loop μ-loop
-returns c = (but-root (c .before .loop .inv .4) (omega arith), put-kept (put-leaf _ _ _ _ (omega (arith, c .before .before .before .pre))) (c .before .loop .inv .5))
+returns c = (but-root (c .before .loop .inv .4) (omega arith), put-kept (put-leaf _ _ _ _ (omega (arith, c .before .before .before .pre))) (c .before .loop .inv .5), (let e : c .before .loop .i ≡ 1 = omega arith in rw e at (c .before .loop .inv .3)))
 
 pub replace-spec : {M : Type 1} → statement M
 replace-spec =
