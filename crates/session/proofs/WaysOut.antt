@@ -1,12 +1,12 @@
 -- The rules for cells by what the code tests, one law for each way out. Assumes nothing.
-use mathlib.Core.Path.{_≡_, sym, _∙_}
-use mathlib.Core.Bool.{Bool, true, false, not, _&&_}
+use mathlib.Core.Path.{_≡_, refl, sym, _∙_}
+use mathlib.Core.Bool.{Bool, true, false, not, _&&_, _||_}
 use Prim.Native.Nat.{ℕ, suc, _+_, _*_, _-_, _/_, _≤_, _<_}
 use native.Mathlib.Nat.{mul-le-mul, div-mul-le-self, suc-mul}
 use native.Mathlib.Numerals.{add-one}
 use native.Mathlib.Omega.{arith}
 use lib.Dec.{leb, ltb, eqb}
-use borrow.Author.Tests.{eq-eqb, ne-eqb, lt-ltb, le-ltb, not-true, not-false}
+use borrow.Author.Tests.{eq-eqb, ne-eqb, lt-ltb, le-ltb, ltb-true, ltb-false, eqb-true, eqb-false, not-true, not-false}
 use Rattle.model.specs.Binding.{standsAlone, meet, bound, noneAlone, fills, startOf, endOf}
 use Rattle.model.specs.Pieces.{firstBeat, insideAt, inside}
 use Rattle.model.specs.Soundness.{cellInRange, memoryWithin, hasTicks, cellBefore, filled, partners}
@@ -20,6 +20,18 @@ use Rattle.session.specs.Running.{noteOfRun, sameNote}
 -- a product of 32-bit numbers, the first of them or one more, fits 64 bits with a 32-bit number added
 pub product-fits : (a b : ℕ) → a ≤ 4294967296 → b ≤ 4294967295 → a * b ≤ 18446744069414584320
 product-fits a b p q = mul-le-mul p q
+
+-- ---- the order of lanes and beats, as one number
+
+module _ (l b m e : ℕ) (b-word : b ≤ 4294967295) (e-word : e ≤ 4294967295) {x y : ℕ} (x-is : x ≡ l * 4294967296 + b) (y-is : y ≡ m * 4294967296 + e) where
+  pub one-number : ltb x y ≡ (ltb l m || eqb l m && ltb b e)
+  one-number = go (ltb l m) refl (eqb l m) refl (ltb b e) refl
+    where
+      go : (p : Bool) → ltb l m ≡ p → (q : Bool) → eqb l m ≡ q → (r : Bool) → ltb b e ≡ r → ltb x y ≡ (p || q && r)
+      go true f q g r h = let k : l < m = ltb-true l m f in lt-ltb x y (omega arith)
+      go false f true g true h = let k : l ≡ m = eqb-true l m g in let j : b < e = ltb-true b e h in lt-ltb x y (omega arith)
+      go false f true g false h = let k : l ≡ m = eqb-true l m g in let j : e ≤ b = ltb-false b e h in le-ltb x y (omega arith)
+      go false f false g r h = let k : m ≤ l = ltb-false l m f in let j : l ≡ m → ⊥ = eqb-false l m g in le-ltb x y (omega arith)
 
 -- ---- a test of two or three parts
 

@@ -1,13 +1,20 @@
 // The rules for cells: which stand alone, which are bound, where their pieces lie; and which notes touch no line.
 // They hold for any words: sums and products are of 64 bits.
 ghost use mathlib.Core.Path.{_≡_};
-ghost use Prim.Native.Nat.{_<_};
+ghost use Prim.Native.Nat.{_+_, _*_, _<_};
 ghost use Rattle.model.specs.Binding.{standsAlone, meet, noneAlone, bound, fills, startOf, endOf};
 ghost use Rattle.model.specs.Pieces.{inside};
 ghost use Rattle.model.specs.Soundness.{filled};
 use model::Cell;
 use model::Header;
 use model::Note;
+
+// Where a beat of a lane comes in the order of lanes, then beats: a word is below 2^32, so the two are one number.
+pub fn beat_order(lane: u32, beat: u32) -> u64
+    ensures { λ r. ⌜ r ≡ lane * 4294967296 + beat ⌝ }
+{
+    (lane as u64) * 4294967296 + (beat as u64)
+}
 
 // Does the cell stand alone?
 pub fn stands_alone(h: Header, c: Cell) -> bool
