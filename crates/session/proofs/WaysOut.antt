@@ -13,8 +13,7 @@ use Rattle.model.specs.Soundness.{cellInRange, memoryWithin, hasTicks, cellBefo
 use Rattle.model.specs.declared.Header.{Header}
 use Rattle.model.specs.declared.Note.{Note}
 use Rattle.model.specs.declared.Cell.{Cell}
-use Rattle.laws.specs.Chain.{cellOk, neighbours, clear}
-use Rattle.session.specs.Checking.{gapOk}
+use Rattle.laws.specs.Chain.{cellOk, sameBeat, neighbours, clear}
 use Rattle.session.specs.Running.{noteOfRun, sameNote}
 
 -- a product of 32-bit numbers, the first of them or one more, fits 64 bits with a 32-bit number added
@@ -87,24 +86,81 @@ module _ (c d : Cell) where
     unfolding bound
     neither s t g = g ∙ rw (← e, ← f, s, t)
 
-  module _ (δ : ℕ) {p : Bool} (e : p ≡ cellBefore c d) where
-    pub order-no : not p ≡ true → false ≡ neighbours δ c d
-    unfolding neighbours
-    order-no t = rw (← e, not-true p t)
+  module _ (δ : ℕ) (c-word : c .beat ≤ 4294967295) (d-word : d .beat ≤ 4294967295)
+      {x y : ℕ} (x-is : x ≡ c .lane * 4294967296 + c .beat) (y-is : y ≡ d .lane * 4294967296 + d .beat) where
+    in-order : x < y → cellBefore c d ≡ true
+    unfolding cellBefore
+    in-order t = go (ltb (c .lane) (d .lane)) refl
+      where
+        go : (p : Bool) → ltb (c .lane) (d .lane) ≡ p → cellBefore c d ≡ true
+        go true f = rw f
+        go false f =
+            let k : d .lane ≤ c .lane = ltb-false _ _ f in
+            rw (f, eq-eqb (c .lane) (d .lane) (omega arith), lt-ltb (c .beat) (d .beat) (omega arith))
 
-    module _ (t : not p ≡ false) {q : Bool} (f : q ≡ fills δ c) where
+    no-partners : x < y → (sameBeat c d ≡ false) × (partners δ c d ≡ false)
+    unfolding sameBeat partners
+    no-partners t = go (eqb (c .lane) (d .lane)) refl
+      where
+        go : (p : Bool) → eqb (c .lane) (d .lane) ≡ p → (sameBeat c d ≡ false) × (partners δ c d ≡ false)
+        go true f =
+            let k : c .lane ≡ d .lane = eqb-true _ _ f in
+            let o : eqb (c .beat) (d .beat) ≡ false = ne-eqb (c .beat) (d .beat) (λ z. omega arith) in
+            (rw (f, o), rw (f, o))
+        go false f = (rw f, rw f)
+
+    pub two-beats : x < y → {s : Bool} → s ≡ not (fills δ c || filled δ d) → s ≡ neighbours δ c d
+    unfolding neighbours
+    two-beats t k = k ∙ go (fills δ c || filled δ d) refl
+      where
+        go : (w : Bool) → (fills δ c || filled δ d) ≡ w → not (fills δ c || filled δ d) ≡ neighbours δ c d
+        go true f = rw (in-order t, f, no-partners t .1)
+        go false f = rw (in-order t, f, no-partners t .0)
+
+    pub order-no : y ≤ x → (x ≡ y → ⊥) → false ≡ neighbours δ c d
+    unfolding neighbours cellBefore
+    order-no t u = go (eqb (c .lane) (d .lane)) refl
+      where
+        no : ltb (c .lane) (d .lane) ≡ false
+        no = le-ltb (c .lane) (d .lane) (omega arith)
+
+        go : (p : Bool) → eqb (c .lane) (d .lane) ≡ p → false ≡ neighbours δ c d
+        go true f =
+            let k : c .lane ≡ d .lane = eqb-true _ _ f in
+            rw (no, f, le-ltb (c .beat) (d .beat) (omega arith), ne-eqb (c .beat) (d .beat) (λ z. omega arith))
+        go false f = rw (no, f)
+
+  -- two cells of which neither is of a piece that fills its beat
+  module _ (δ : ℕ) {p : Bool} (e : p ≡ fills δ c) where
+    pub one-fills : p ≡ true → false ≡ not (fills δ c || filled δ d)
+    one-fills t = rw (← e, t)
+
+    pub by-filled : p ≡ false → {q : Bool} → q ≡ filled δ d → not q ≡ not (fills δ c || filled δ d)
+    by-filled t f = rw (← e, t, ← f)
+
+  module _ (δ : ℕ) (l : c .lane ≡ d .lane) (b : c .beat ≡ d .beat) where
+    by-side : cellBefore c d ≡ ltb (c .side) (d .side)
+    unfolding cellBefore
+    by-side =
+        rw (le-ltb (c .lane) (d .lane) (omega arith), eq-eqb (c .lane) (d .lane) l, le-ltb (c .beat) (d .beat) (omega arith), eq-eqb (c .beat) (d .beat) b)
+
+    pub side-no : d .side ≤ c .side → false ≡ neighbours δ c d
+    unfolding neighbours
+    side-no t = rw (by-side, le-ltb _ _ t)
+
+    module _ (t : c .side < d .side) {q : Bool} (f : q ≡ fills δ c) where
       pub first-fills : q ≡ true → {s : Bool} → s ≡ partners δ c d → s ≡ neighbours δ c d
       unfolding neighbours
-      first-fills u g = rw (← e, not-false p t, ← f, u, ← g)
+      first-fills u g = rw (by-side, lt-ltb _ _ t, ← f, u, ← g)
 
       module _ (u : q ≡ false) {r : Bool} (g : r ≡ filled δ d) where
         pub second-filled : r ≡ true → {s : Bool} → s ≡ partners δ c d → s ≡ neighbours δ c d
         unfolding neighbours
-        second-filled v k = rw (← e, not-false p t, ← f, u, ← g, v, ← k)
+        second-filled v k = rw (by-side, lt-ltb _ _ t, ← f, u, ← g, v, ← k)
 
-        pub by-gap : r ≡ false → {s : Bool} → s ≡ gapOk δ c d → s ≡ neighbours δ c d
-        unfolding neighbours gapOk
-        by-gap v k = k ∙ rw (← e, not-false p t, ← f, u, ← g, v)
+        pub by-gap : r ≡ false → leb (c .after + d .before) δ ≡ neighbours δ c d
+        unfolding neighbours sameBeat
+        by-gap v = rw (by-side, lt-ltb _ _ t, ← f, u, ← g, v, eq-eqb (c .lane) (d .lane) l, eq-eqb (c .beat) (d .beat) b)
 
 -- ---- where a piece lies
 
