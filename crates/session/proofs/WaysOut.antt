@@ -177,15 +177,19 @@ module _ (δ : ℕ) (c : Cell) where
   end-close e = rw (ne-eqb _ _ e, add-one)
 
 module _ (δ : ℕ) (n : Note) where
-  pub inside-not : n .start ≤ n .start / δ * δ → false ≡ inside δ n
-  unfolding insideAt
-  inside-not l = rw (le-ltb _ _ l)
+  module _ {b : ℕ} (is : b ≡ firstBeat δ n) where
+    pub beat-line : b * δ ≤ n .start
+    beat-line = rw is (div-mul-le-self (n .start) δ)
 
-  pub inside-end : n .start / δ * δ < n .start → ltb (n .end) (n .start / δ * δ + δ) ≡ inside δ n
-  unfolding insideAt
-  inside-end l =
-      let e : n .start / δ * δ + δ ≡ suc (n .start / δ) * δ = omega (arith, suc-mul (n .start / δ) δ) in
-      rw (lt-ltb _ _ l, e)
+    pub inside-not : n .start ≤ b * δ → false ≡ inside δ n
+    unfolding insideAt
+    inside-not l = rw (le-ltb _ _ (rw is at l))
+
+    pub inside-end : b * δ < n .start → ltb (n .end) (b * δ + δ) ≡ inside δ n
+    unfolding insideAt
+    inside-end l =
+        let e : n .start / δ * δ + δ ≡ suc (n .start / δ) * δ = omega (arith, suc-mul (n .start / δ) δ) in
+        rw (lt-ltb _ _ (rw is at l), is, e)
 
   -- the note's beat is the cell's, or not
   module _ (c : Cell) {b : ℕ} (is : b ≡ firstBeat δ n) where
@@ -202,9 +206,6 @@ module _ (δ : ℕ) (n : Note) where
     closing-clear l o s =
         let e : c .beat * δ + δ ≡ suc (c .beat) * δ = omega (arith, suc-mul (c .beat) δ) in
         rw (eq-eqb _ _ l, eq-eqb (firstBeat δ n) (c .beat) (sym is ∙ o), ne-eqb _ _ s, o, e)
-
-  pub beat-line : {b : ℕ} → b ≡ firstBeat δ n → b * δ ≤ n .start
-  beat-line e = rw e (div-mul-le-self (n .start) δ)
 
 -- ---- the note of a run
 

@@ -1,9 +1,9 @@
 // The rules for cells: which stand alone, which are bound, where their pieces lie; and which notes touch no line.
 // They hold for any words: sums and products are of 64 bits.
 ghost use mathlib.Core.Path.{_≡_};
-ghost use Prim.Native.Nat.{_+_, _*_, _<_};
+ghost use Prim.Native.Nat.{_+_, _*_};
 ghost use Rattle.model.specs.Binding.{standsAlone, meet, noneAlone, bound, fills, startOf, endOf};
-ghost use Rattle.model.specs.Pieces.{inside};
+ghost use Rattle.model.specs.Pieces.{firstBeat, inside};
 ghost use Rattle.model.specs.Soundness.{filled};
 use model::Cell;
 use model::Header;
@@ -126,12 +126,11 @@ pub fn end_of(delta: u32, c: Cell) -> u64
     ((c.beat as u64) + 1) * (delta as u64)
 }
 
-// Does the note touch no line?
-pub fn is_inside(delta: u32, n: Note) -> bool
-    requires { ⌜ 0 < delta ⌝ }
+// Does the note, which starts in beat `beat`, touch no line?
+pub fn is_inside(delta: u32, beat: u32, n: Note) -> bool
+    requires { ⌜ beat ≡ firstBeat delta n ⌝ }
     ensures { λ r. ⌜ r ≡ inside delta n ⌝ }
 {
-    let beat = n.start / delta;
     let line = (beat as u64) * (delta as u64);
     if (n.start as u64) <= line {
         return false;
