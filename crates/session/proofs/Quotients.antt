@@ -1,6 +1,6 @@
 -- A tick of a take divided by δ is a product divided by 2^42. Assumes nothing.
 use mathlib.Core.Path.{_≡_}
-use Prim.Native.Nat.{ℕ, suc, _+_, _*_, _/_, _≤_, _<_}
+use Prim.Native.Nat.{ℕ, _+_, _*_, _/_, _≤_, _<_}
 use native.Mathlib.Nat.{mul-le-mul, mul-le-mul-left, mul-le-mul-right, lt-of-mul-lt-mul-right, div-mul-le-self, lt-div-mul-add, div-lt-iff-lt-mul, div-eq-of-lt-le}
 use native.Mathlib.Omega.{arith}
 use Rattle.model.specs.Limits.{maxBeats, maxDelta}
@@ -41,7 +41,7 @@ module _ (δ t : ℕ) (pos : 0 < δ) (most : δ ≤ maxDelta) (tick : t ≤ maxB
         rw is (div-eq-of-lt-le 4398046511104 (from δ t (t / δ) (reciprocalOf δ) (div-mul-le-self t δ) (lt-div-mul-add pos) above near small)
         (below δ t (t / δ) (reciprocalOf δ) (div-mul-le-self t δ) (lt-div-mul-add pos) above near small))
 
-    pub product-fits : t * m ≤ 18446744073709551615
-    product-fits =
+    pub tick-product-fits : t * m ≤ 18446744073709551615
+    tick-product-fits =
         let few : t / δ < 4097 = div-lt-iff-lt-mul pos .1 (omega arith) in
         rw is (omega (arith, below δ t (t / δ) (reciprocalOf δ) (div-mul-le-self t δ) (lt-div-mul-add pos) above near small))

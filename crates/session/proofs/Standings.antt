@@ -1,12 +1,12 @@
 -- The pass over the notes: what each note's check answers, and what is left to ask behind it. Assumes nothing.
 use mathlib.Core.Path.{_≡_, refl, sym, ap, _∙_}
-use mathlib.Core.Bool.{Bool, true, false, not, _&&_, _||_, and-false}
+use mathlib.Core.Bool.{Bool, true, false, not, _&&_, and-false}
 use mathlib.Core.List.{List, [], _∷_}
 use Prim.Native.Nat.{ℕ, zero, suc, _*_, _-_, _≤_, _<_}
 use native.Mathlib.Nat.{mul-le-mul-right}
 use native.Mathlib.Omega.{arith}
-use borrow.Author.Tests.{not-true, not-false, eq-eqb, ne-eqb, lt-ltb, le-leb}
-use lib.Dec.{eqb, leb, ltb}
+use borrow.Author.Tests.{not-true, not-false, eq-eqb, ne-eqb}
+use lib.Dec.{eqb}
 use Rattle.model.specs.Limits.{maxBeats}
 use Rattle.model.specs.Pieces.{firstBeat, inside}
 use Rattle.model.specs.Soundness.{noteOk, follows, firstFollows, notesOk}
@@ -20,6 +20,7 @@ use Rattle.session.specs.Checking.{givenBy, standing, notesAsked, before
 use Rattle.session.specs.Reading.{noteAt, cellAt, lastNotes, lastCells}
 use Rattle.session.specs.Running.{fromShown, fromLast, noteOfRun, sameNote}
 use Rattle.session.specs.declared.sound.Passed.{Passed}
+use Rattle.session.proofs.Checks.{first-follows}
 use Rattle.session.proofs.Lasts.{no-notes, no-cells, last-notes, cons}
 use Rattle.session.proofs.Walks.{gives-nothing, gives-note, inner-first, line-first, line-none, none-left, one-left}
 
@@ -105,15 +106,6 @@ module _ (h : Header) (beats : ℕ) (ws : List ℕ) (to end notes cells : ℕ) w
     pub notes-left : left ≤ notes
     pub beside-left : beside ≤ cells
     pub line-left : line ≤ cells
-
-  first-follows : (ns : List Note) → firstFollows beforeAll ns ≡ true
-  unfolding firstFollows follows beforeAll
-  first-follows [] = refl
-  first-follows (n ∷ ns) = go (n .lane)
-    where
-      go : (l : ℕ) → (ltb 0 l || eqb 0 l && leb 0 (n .start)) ≡ true
-      go zero = le-leb 0 (n .start) (omega arith)
-      go (suc l) = rw (lt-ltb 0 (suc l) (omega arith))
 
   pub asking-all : {m : Note} → m ≡ beforeAll → Asking m notes cells cells
   unfolding notesAsked

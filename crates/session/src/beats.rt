@@ -12,7 +12,7 @@ pub fn reciprocal(delta: u32) -> u64
     4398046511104 / (delta as u64) + 1
 }
 
-// The beat of a tick of a take.
+// The beat of a tick of a take. δ itself is there for the contract: the product needs only its reciprocal.
 pub fn beat_of(delta: u32, reciprocal: u64, tick: u32) -> u32
     requires { ⌜ (0 < delta) × (delta ≤ maxDelta) × (tick ≤ maxBeats * delta) × (reciprocal ≡ reciprocalOf delta) ⌝ }
     ensures { λ r. ⌜ r ≡ tick / delta ⌝ }

@@ -7,7 +7,6 @@ use crate::beats;
 use crate::cells;
 use crate::notes;
 use model::Header;
-use model::Note;
 
 // What the check of a note list answers.
 pub enum ListAnswer {
@@ -26,12 +25,7 @@ pub fn check_list(h: Header, beats: u32, list: &[u32]) -> ListAnswer
         return ListAnswer::Refused;
     }
     let reciprocal = beats::reciprocal(h.delta);
-    let mut last = Note {
-        lane: 0,
-        start: 0,
-        end: 0,
-        velocity: 0,
-    };
+    let mut last = notes::before_all();
     let mut cells: u64 = 0;
     let mut at = 0;
     while at < list.len() {

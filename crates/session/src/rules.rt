@@ -1,4 +1,4 @@
-// The rules for cells: which stand alone, which are bound, where their pieces lie; and which notes touch no line.
+// The rules for cells: their order, which stand alone, which are bound, where their pieces lie; and which notes touch no line.
 // They hold for any words: sums and products are of 64 bits.
 ghost use mathlib.Core.Path.{_≡_};
 ghost use Prim.Native.Nat.{_+_, _*_};

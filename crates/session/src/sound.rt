@@ -7,7 +7,7 @@ ghost use Rattle.model.specs.Limits.{maxBeats, maxDelta, minWords};
 ghost use Rattle.model.specs.Pieces.{firstBeat, inside};
 ghost use Rattle.model.specs.Soundness.{noteOk, follows, soundShelf};
 ghost use Rattle.model.specs.Takes.{wordsUsed};
-ghost use Rattle.session.specs.Checking.{Passes, beforeAll, notesAsked};
+ghost use Rattle.session.specs.Checking.{Passes, notesAsked};
 ghost use Rattle.session.specs.Dividing.{reciprocalOf};
 ghost use Rattle.session.specs.Reading.{lastNotes, lastCells};
 use crate::beats;
@@ -107,18 +107,6 @@ fn in_order(delta: u32, beats: u32, last: Note, n: Note) -> bool
     notes::note_follows(last, n)
 }
 
-// A note that every note may stand behind.
-fn before_all() -> Note
-    ensures { λ r. ⌜ r ≡ beforeAll ⌝ }
-{
-    Note {
-        lane: 0,
-        start: 0,
-        end: 0,
-        velocity: 0,
-    }
-}
-
 // What is asked of the notes: ranges, order, and that they stand rightly beside the cells.
 pub fn notes_ok(h: Header, beats: u32, part: &[u32], notes: usize, cells: usize) -> bool
     requires { ⌜ (0 < h .delta) × (h .delta ≤ maxDelta) × (beats ≤ maxBeats) × (wordsUsed notes cells ≤ length (now part)) ⌝ }
@@ -127,7 +115,7 @@ pub fn notes_ok(h: Header, beats: u32, part: &[u32], notes: usize, cells: usize)
     let reciprocal = beats::reciprocal(h.delta);
     let notes_end = 3 + 4 * notes;
     let end = notes_end + 6 * cells;
-    let mut last = before_all();
+    let mut last = notes::before_all();
     let mut left = notes;
     let mut beside = cells;
     let mut line = cells;
