@@ -19,6 +19,7 @@ use Rattle.model.specs.Questions.{listOk}
 use Rattle.model.specs.declared.Header.{Header}
 use Rattle.model.specs.declared.Note.{Note}
 use Rattle.laws.specs.Notes.{Fair, fair, Follow, Follow.above, Follow.later, follow}
+use Rattle.session.specs.Checking.{beforeAll}
 use Rattle.session.specs.Counting.{oneIf}
 use Rattle.session.specs.Reading.{noteAt}
 use Rattle.session.specs.Listing.{listOf, listAsked, cellsListed}
@@ -58,6 +59,15 @@ few-cells δ n h =
 
 -- ---- the loop
 
+pub first-follows : (ns : List Note) → firstFollows beforeAll ns ≡ true
+unfolding firstFollows follows beforeAll
+first-follows [] = refl
+first-follows (n ∷ ns) = go (n .lane)
+  where
+    go : (l : ℕ) → (ltb 0 l || eqb 0 l && leb 0 (n .start)) ≡ true
+    go zero = le-leb 0 (n .start) (omega arith)
+    go (suc l) = rw (lt-ltb 0 (suc l) (omega arith))
+
 module _ (δ beats : ℕ) (ws : List ℕ) where
   -- the notes from place at on, all of them, and how many cells some notes have
   abbrev rest : ℕ → List Note
@@ -78,25 +88,19 @@ module _ (δ beats : ℕ) (ws : List ℕ) where
     pub top : m .end ≤ beats * δ
     pub few : cells ≤ 2 * (m .lane * (beats * δ) + m .end)
 
-  first-follows : (ns : List Note) → firstFollows (record { lane = 0; start = 0; end = 0; velocity = 0 }) ns ≡ true
-  unfolding firstFollows follows
-  first-follows [] = refl
-  first-follows (n ∷ ns) = go (n .lane)
-    where
-      go : (l : ℕ) → (ltb 0 l || eqb 0 l && leb 0 (n .start)) ≡ true
-      go zero = le-leb 0 (n .start) (omega arith)
-      go (suc l) = rw (lt-ltb 0 (suc l) (omega arith))
+  start : length ws % 4 ≡ 0 → Checked beforeAll 0 0
+  unfolding beforeAll
+  start whole = record {
+    whole = rw (sub-zero (length ws)) (omega (arith, div-add-mod' (length ws) 4));
+    ok = rw (sub-zero (length ws), first-follows all);
+    count = rw (sub-zero (length ws)) (omega arith);
+    lane = omega arith;
+    top = omega arith;
+    few = omega arith;
+  }
 
-  pub checked-start : length ws % 4 ≡ 0 → Checked (record { lane = 0; start = 0; end = 0; velocity = 0 }) 0 0
-  checked-start whole =
-      record {
-        whole = rw (sub-zero (length ws)) (omega (arith, div-add-mod' (length ws) 4));
-        ok = rw (sub-zero (length ws), first-follows all);
-        count = rw (sub-zero (length ws)) (omega arith);
-        lane = omega arith;
-        top = omega arith;
-        few = omega arith;
-      }
+  pub checked-start : {m : Note} → m ≡ beforeAll → length ws % 4 ≡ 0 → Checked m 0 0
+  checked-start e whole = rw e (start whole)
 
   module _ {m : Note} {cells at : ℕ} (c : Checked m cells at) where
     pub checked-done : length ws ≤ at → (notesOk δ beats all ≡ true) × (cells ≡ cellsIn all)

@@ -88,7 +88,7 @@ module _ {δ : ℕ} {n : Note} (i : Beats δ n) where
         count-from k (suc b) (omega arith) (omega arith),
       )
 
--- what the code computes
+-- what the code computes from the first and the last beat
 pub count-note : (δ : ℕ) (n : Note) → (0 < δ) × (δ ≤ maxDelta) × (n .start < n .end) × (n .end ≤ maxBeats * δ)
     → oneIf (leb (n .start) (firstBeat δ n * δ)) + 2 * (lastBeat δ n - firstBeat δ n) + oneIf (leb ((lastBeat δ n + 1) * δ) (n .end))
     ≡ length (cellsOfNote δ n)
@@ -99,3 +99,11 @@ count-note δ n h =
     let many : suc (lastBeat δ n) - firstBeat δ n ≡ suc d = omega (arith, i .order) in
     let last : suc (lastBeat δ n) ≡ lastBeat δ n + 1 = omega arith in
     rw (many, ← last) (sym (count-from i d (firstBeat δ n) (omega arith) (omega (arith, i .order))))
+
+-- the first and the last beat as numbers in hand: their lines, and the count
+module _ (δ : ℕ) (n : Note) {first last : ℕ} (h : (0 < δ) × (δ ≤ maxDelta) × (n .start < n .end) × (n .end ≤ maxBeats * δ) × (first ≡ firstBeat δ n) × (last ≡ lastBeat δ n)) where
+  pub in-hand : Beats δ n × (first * δ ≡ firstBeat δ n * δ) × (last * δ ≡ lastBeat δ n * δ)
+  in-hand = (note-beats δ n (h .0, h .1, h .2, h .3), ap (λ (b : ℕ). b * δ) (h .4), ap (λ (b : ℕ). b * δ) (h .5))
+
+  pub count-between : oneIf (leb (n .start) (first * δ)) + 2 * (last - first) + oneIf (leb ((last + 1) * δ) (n .end)) ≡ length (cellsOfNote δ n)
+  count-between = rw (h .4, h .5) (count-note δ n (h .0, h .1, h .2, h .3))

@@ -1,6 +1,7 @@
 pub mod Entries
 pub mod Frames
 pub mod Counts
+pub mod Quotients
 pub mod Readings
 pub mod Checks
 pub mod WaysOut

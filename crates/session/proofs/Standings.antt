@@ -1,21 +1,26 @@
 -- The pass over the notes: what each note's check answers, and what is left to ask behind it. Assumes nothing.
-use mathlib.Core.Path.{_≡_, refl, sym, _∙_}
-use mathlib.Core.Bool.{Bool, true, false, not, _&&_, _||_, and-false}
+use mathlib.Core.Path.{_≡_, refl, sym, ap, _∙_}
+use mathlib.Core.Bool.{Bool, true, false, not, _&&_, and-false}
 use mathlib.Core.List.{List, [], _∷_}
 use Prim.Native.Nat.{ℕ, zero, suc, _*_, _-_, _≤_, _<_}
+use native.Mathlib.Nat.{mul-le-mul-right}
 use native.Mathlib.Omega.{arith}
-use borrow.Author.Tests.{not-true, not-false, eq-eqb, ne-eqb, lt-ltb, le-leb}
-use lib.Dec.{eqb, leb, ltb}
+use borrow.Author.Tests.{not-true, not-false, eq-eqb, ne-eqb}
+use lib.Dec.{eqb}
+use Rattle.model.specs.Limits.{maxBeats}
 use Rattle.model.specs.Pieces.{firstBeat, inside}
 use Rattle.model.specs.Soundness.{noteOk, follows, firstFollows, notesOk}
 use Rattle.model.specs.declared.Header.{Header}
 use Rattle.model.specs.declared.Note.{Note}
 use Rattle.model.specs.declared.Cell.{Cell}
+use Rattle.laws.specs.Booleans.{and-left}
+use Rattle.laws.specs.Notes.{fair}
 use Rattle.laws.specs.Sweep.{skip, clearTwo}
 use Rattle.session.specs.Checking.{givenBy, standing, notesAsked, beforeAll, Passes}
 use Rattle.session.specs.Reading.{noteAt, cellAt, lastNotes, lastCells}
 use Rattle.session.specs.Running.{fromShown, fromLast, noteOfRun, sameNote}
 use Rattle.session.specs.declared.sound.Passed.{Passed}
+use Rattle.session.proofs.Checks.{first-follows}
 use Rattle.session.proofs.Lasts.{no-notes, no-cells, last-notes, cons}
 use Rattle.session.proofs.Walks.{gives-nothing, gives-note, inner-first, line-first, line-none, none-left, one-left}
 
@@ -57,16 +62,22 @@ module _ (h : Header) (ws : List ℕ) (end : ℕ) where
         line-left = omega arith;
       }
 
-  pub passes-inner : {n : Note} {beside : ℕ} (line : ℕ) → inside (h .delta) n ≡ true
-      → {left : ℕ} → (lastCells ws end left ≡ skip (n .lane) (firstBeat (h .delta) n) (lastCells ws end beside)) × (left ≤ beside)
+  pub passes-inner : {n : Note} {beside : ℕ} (line : ℕ) → inside (h .delta) n ≡ true → {beat : ℕ} → beat ≡ firstBeat (h .delta) n
+      → {left : ℕ} → (lastCells ws end left ≡ skip (n .lane) beat (lastCells ws end beside)) × (left ≤ beside)
       → {p : Bool} → p ≡ clearTwo (h .delta) n (lastCells ws end left) → Passes h ws end n beside line (record { right = p; beside = left; line = line })
-  passes-inner {n} line i s e = record {
-    first = λ ns. inner-first h n ns _ _ i _ (s .0) e;
+  passes-inner {n} {beside} line i is s e = record {
+    first = λ ns. inner-first h n ns _ _ i _ (s .0 ∙ ap (λ (b : ℕ). skip (n .lane) b (lastCells ws end beside)) is) e;
     beside-left = s .1;
     line-left = omega arith;
   }
 
 -- ---- the notes one after the other
+
+-- a note in order starts at a tick of a take
+pub start-within : (δ beats : ℕ) (m n : Note) → beats ≤ maxBeats → {p : Bool} → p ≡ noteOk δ beats n && follows m n → not p ≡ false → n .start ≤ maxBeats * δ
+start-within δ beats m n most {p} o t =
+    let r = fair δ beats n (and-left (noteOk δ beats n) (follows m n) (sym o ∙ not-false p t)) in
+    omega (arith, r .order, r .fits, mul-le-mul-right δ most)
 
 reorder : (f o q r s : Bool) → (f && (o && q && r)) && s ≡ (o && f) && (q && r && s)
 reorder true true q r s = refl
@@ -95,15 +106,6 @@ module _ (h : Header) (beats : ℕ) (ws : List ℕ) (to end notes cells : ℕ) w
     pub notes-left : left ≤ notes
     pub beside-left : beside ≤ cells
     pub line-left : line ≤ cells
-
-  first-follows : (ns : List Note) → firstFollows beforeAll ns ≡ true
-  unfolding firstFollows follows beforeAll
-  first-follows [] = refl
-  first-follows (n ∷ ns) = go (n .lane)
-    where
-      go : (l : ℕ) → (ltb 0 l || eqb 0 l && leb 0 (n .start)) ≡ true
-      go zero = le-leb 0 (n .start) (omega arith)
-      go (suc l) = rw (lt-ltb 0 (suc l) (omega arith))
 
   pub asking-all : {m : Note} → m ≡ beforeAll → Asking m notes cells cells
   unfolding notesAsked

@@ -1,25 +1,36 @@
 -- The rules for cells by what the code tests, one law for each way out. Assumes nothing.
-use mathlib.Core.Path.{_≡_, sym, _∙_}
-use mathlib.Core.Bool.{Bool, true, false, not, _&&_}
+use mathlib.Core.Path.{_≡_, refl, sym, _∙_}
+use mathlib.Core.Bool.{Bool, true, false, not, _&&_, _||_}
 use Prim.Native.Nat.{ℕ, suc, _+_, _*_, _-_, _/_, _≤_, _<_}
 use native.Mathlib.Nat.{mul-le-mul, div-mul-le-self, suc-mul}
 use native.Mathlib.Numerals.{add-one}
 use native.Mathlib.Omega.{arith}
 use lib.Dec.{leb, ltb, eqb}
-use borrow.Author.Tests.{eq-eqb, ne-eqb, lt-ltb, le-ltb, not-true, not-false}
+use borrow.Author.Tests.{eq-eqb, ne-eqb, lt-ltb, le-ltb, ltb-true, ltb-false, eqb-true, eqb-false, not-true, not-false}
 use Rattle.model.specs.Binding.{standsAlone, meet, bound, noneAlone, fills, startOf, endOf}
 use Rattle.model.specs.Pieces.{firstBeat, insideAt, inside}
 use Rattle.model.specs.Soundness.{cellInRange, memoryWithin, hasTicks, cellBefore, filled, partners}
 use Rattle.model.specs.declared.Header.{Header}
 use Rattle.model.specs.declared.Note.{Note}
 use Rattle.model.specs.declared.Cell.{Cell}
-use Rattle.laws.specs.Chain.{cellOk, neighbours, clear}
-use Rattle.session.specs.Checking.{gapOk}
+use Rattle.laws.specs.Chain.{cellOk, sameBeat, neighbours, clear}
 use Rattle.session.specs.Running.{noteOfRun, sameNote}
 
 -- a product of 32-bit numbers, the first of them or one more, fits 64 bits with a 32-bit number added
 pub product-fits : (a b : ℕ) → a ≤ 4294967296 → b ≤ 4294967295 → a * b ≤ 18446744069414584320
 product-fits a b p q = mul-le-mul p q
+
+-- ---- the order of lanes and beats, as one number
+
+module _ (l b m e : ℕ) (b-word : b ≤ 4294967295) (e-word : e ≤ 4294967295) {x y : ℕ} (x-is : x ≡ l * 4294967296 + b) (y-is : y ≡ m * 4294967296 + e) where
+  pub one-number : ltb x y ≡ (ltb l m || eqb l m && ltb b e)
+  one-number = go (ltb l m) refl (eqb l m) refl (ltb b e) refl
+    where
+      go : (p : Bool) → ltb l m ≡ p → (q : Bool) → eqb l m ≡ q → (r : Bool) → ltb b e ≡ r → ltb x y ≡ (p || q && r)
+      go true f q g r h = let k : l < m = ltb-true l m f in lt-ltb x y (omega arith)
+      go false f true g true h = let k : l ≡ m = eqb-true l m g in let j : b < e = ltb-true b e h in lt-ltb x y (omega arith)
+      go false f true g false h = let k : l ≡ m = eqb-true l m g in let j : e ≤ b = ltb-false b e h in le-ltb x y (omega arith)
+      go false f false g r h = let k : m ≤ l = ltb-false l m f in let j : l ≡ m → ⊥ = eqb-false l m g in le-ltb x y (omega arith)
 
 -- ---- a test of two or three parts
 
@@ -75,24 +86,81 @@ module _ (c d : Cell) where
     unfolding bound
     neither s t g = g ∙ rw (← e, ← f, s, t)
 
-  module _ (δ : ℕ) {p : Bool} (e : p ≡ cellBefore c d) where
-    pub order-no : not p ≡ true → false ≡ neighbours δ c d
-    unfolding neighbours
-    order-no t = rw (← e, not-true p t)
+  module _ (δ : ℕ) (c-word : c .beat ≤ 4294967295) (d-word : d .beat ≤ 4294967295)
+      {x y : ℕ} (x-is : x ≡ c .lane * 4294967296 + c .beat) (y-is : y ≡ d .lane * 4294967296 + d .beat) where
+    in-order : x < y → cellBefore c d ≡ true
+    unfolding cellBefore
+    in-order t = go (ltb (c .lane) (d .lane)) refl
+      where
+        go : (p : Bool) → ltb (c .lane) (d .lane) ≡ p → cellBefore c d ≡ true
+        go true f = rw f
+        go false f =
+            let k : d .lane ≤ c .lane = ltb-false _ _ f in
+            rw (f, eq-eqb (c .lane) (d .lane) (omega arith), lt-ltb (c .beat) (d .beat) (omega arith))
 
-    module _ (t : not p ≡ false) {q : Bool} (f : q ≡ fills δ c) where
+    no-partners : x < y → (sameBeat c d ≡ false) × (partners δ c d ≡ false)
+    unfolding sameBeat partners
+    no-partners t = go (eqb (c .lane) (d .lane)) refl
+      where
+        go : (p : Bool) → eqb (c .lane) (d .lane) ≡ p → (sameBeat c d ≡ false) × (partners δ c d ≡ false)
+        go true f =
+            let k : c .lane ≡ d .lane = eqb-true _ _ f in
+            let o : eqb (c .beat) (d .beat) ≡ false = ne-eqb (c .beat) (d .beat) (λ z. omega arith) in
+            (rw (f, o), rw (f, o))
+        go false f = (rw f, rw f)
+
+    pub two-beats : x < y → {s : Bool} → s ≡ not (fills δ c || filled δ d) → s ≡ neighbours δ c d
+    unfolding neighbours
+    two-beats t k = k ∙ go (fills δ c || filled δ d) refl
+      where
+        go : (w : Bool) → (fills δ c || filled δ d) ≡ w → not (fills δ c || filled δ d) ≡ neighbours δ c d
+        go true f = rw (in-order t, f, no-partners t .1)
+        go false f = rw (in-order t, f, no-partners t .0)
+
+    pub order-no : y ≤ x → (x ≡ y → ⊥) → false ≡ neighbours δ c d
+    unfolding neighbours cellBefore
+    order-no t u = go (eqb (c .lane) (d .lane)) refl
+      where
+        no : ltb (c .lane) (d .lane) ≡ false
+        no = le-ltb (c .lane) (d .lane) (omega arith)
+
+        go : (p : Bool) → eqb (c .lane) (d .lane) ≡ p → false ≡ neighbours δ c d
+        go true f =
+            let k : c .lane ≡ d .lane = eqb-true _ _ f in
+            rw (no, f, le-ltb (c .beat) (d .beat) (omega arith), ne-eqb (c .beat) (d .beat) (λ z. omega arith))
+        go false f = rw (no, f)
+
+  -- two cells of which neither is of a piece that fills its beat
+  module _ (δ : ℕ) {p : Bool} (e : p ≡ fills δ c) where
+    pub one-fills : p ≡ true → false ≡ not (fills δ c || filled δ d)
+    one-fills t = rw (← e, t)
+
+    pub by-filled : p ≡ false → {q : Bool} → q ≡ filled δ d → not q ≡ not (fills δ c || filled δ d)
+    by-filled t f = rw (← e, t, ← f)
+
+  module _ (δ : ℕ) (l : c .lane ≡ d .lane) (b : c .beat ≡ d .beat) where
+    by-side : cellBefore c d ≡ ltb (c .side) (d .side)
+    unfolding cellBefore
+    by-side =
+        rw (le-ltb (c .lane) (d .lane) (omega arith), eq-eqb (c .lane) (d .lane) l, le-ltb (c .beat) (d .beat) (omega arith), eq-eqb (c .beat) (d .beat) b)
+
+    pub side-no : d .side ≤ c .side → false ≡ neighbours δ c d
+    unfolding neighbours
+    side-no t = rw (by-side, le-ltb _ _ t)
+
+    module _ (t : c .side < d .side) {q : Bool} (f : q ≡ fills δ c) where
       pub first-fills : q ≡ true → {s : Bool} → s ≡ partners δ c d → s ≡ neighbours δ c d
       unfolding neighbours
-      first-fills u g = rw (← e, not-false p t, ← f, u, ← g)
+      first-fills u g = rw (by-side, lt-ltb _ _ t, ← f, u, ← g)
 
       module _ (u : q ≡ false) {r : Bool} (g : r ≡ filled δ d) where
         pub second-filled : r ≡ true → {s : Bool} → s ≡ partners δ c d → s ≡ neighbours δ c d
         unfolding neighbours
-        second-filled v k = rw (← e, not-false p t, ← f, u, ← g, v, ← k)
+        second-filled v k = rw (by-side, lt-ltb _ _ t, ← f, u, ← g, v, ← k)
 
-        pub by-gap : r ≡ false → {s : Bool} → s ≡ gapOk δ c d → s ≡ neighbours δ c d
-        unfolding neighbours gapOk
-        by-gap v k = k ∙ rw (← e, not-false p t, ← f, u, ← g, v)
+        pub by-gap : r ≡ false → leb (c .after + d .before) δ ≡ neighbours δ c d
+        unfolding neighbours sameBeat
+        by-gap v = rw (by-side, lt-ltb _ _ t, ← f, u, ← g, v, eq-eqb (c .lane) (d .lane) l, eq-eqb (c .beat) (d .beat) b)
 
 -- ---- where a piece lies
 
@@ -109,15 +177,19 @@ module _ (δ : ℕ) (c : Cell) where
   end-close e = rw (ne-eqb _ _ e, add-one)
 
 module _ (δ : ℕ) (n : Note) where
-  pub inside-not : n .start ≤ n .start / δ * δ → false ≡ inside δ n
-  unfolding insideAt
-  inside-not l = rw (le-ltb _ _ l)
+  module _ {b : ℕ} (is : b ≡ firstBeat δ n) where
+    pub beat-line : b * δ ≤ n .start
+    beat-line = rw is (div-mul-le-self (n .start) δ)
 
-  pub inside-end : n .start / δ * δ < n .start → ltb (n .end) (n .start / δ * δ + δ) ≡ inside δ n
-  unfolding insideAt
-  inside-end l =
-      let e : n .start / δ * δ + δ ≡ suc (n .start / δ) * δ = omega (arith, suc-mul (n .start / δ) δ) in
-      rw (lt-ltb _ _ l, e)
+    pub inside-not : n .start ≤ b * δ → false ≡ inside δ n
+    unfolding insideAt
+    inside-not l = rw (le-ltb _ _ (rw is at l))
+
+    pub inside-end : b * δ < n .start → ltb (n .end) (b * δ + δ) ≡ inside δ n
+    unfolding insideAt
+    inside-end l =
+        let e : n .start / δ * δ + δ ≡ suc (n .start / δ) * δ = omega (arith, suc-mul (n .start / δ) δ) in
+        rw (lt-ltb _ _ (rw is at l), is, e)
 
   -- the note's beat is the cell's, or not
   module _ (c : Cell) {b : ℕ} (is : b ≡ firstBeat δ n) where
@@ -134,9 +206,6 @@ module _ (δ : ℕ) (n : Note) where
     closing-clear l o s =
         let e : c .beat * δ + δ ≡ suc (c .beat) * δ = omega (arith, suc-mul (c .beat) δ) in
         rw (eq-eqb _ _ l, eq-eqb (firstBeat δ n) (c .beat) (sym is ∙ o), ne-eqb _ _ s, o, e)
-
-  pub beat-line : {b : ℕ} → b ≡ firstBeat δ n → b * δ ≤ n .start
-  beat-line e = rw e (div-mul-le-self (n .start) δ)
 
 -- ---- the note of a run
 

@@ -1,10 +1,9 @@
 -- Question 4, as the check goes through cells and notes. Assumes nothing.
 use mathlib.Core.Path.{_≡_}
-use mathlib.Core.Bool.{Bool, not, _&&_, _||_}
+use mathlib.Core.Bool.{Bool, not, _&&_}
 use mathlib.Core.List.{List, _∷_}
 use mathlib.Core.Option.{none}
-use Prim.Native.Nat.{ℕ, _+_, _≤_}
-use lib.Dec.{leb}
+use Prim.Native.Nat.{ℕ, _≤_}
 use Rattle.model.specs.Lists.{keep, gather}
 use Rattle.model.specs.Pieces.{insideAt, inside}
 use Rattle.model.specs.Soundness.{notesOk, sameWords}
@@ -12,16 +11,10 @@ use Rattle.model.specs.Takes.{noteWords}
 use Rattle.model.specs.declared.Header.{Header}
 use Rattle.model.specs.declared.Note.{Note}
 use Rattle.model.specs.declared.Cell.{Cell}
-use Rattle.laws.specs.Chain.{sameBeat}
 use Rattle.laws.specs.Sweep.{sweep}
 use Rattle.laws.specs.Walk.{walkFrom}
 use Rattle.session.specs.Reading.{lastCells}
 use Rattle.session.specs.declared.sound.Passed.{Passed}
-
--- Two pieces of one beat do not overlap.
-unfoldable pub gapOk : ℕ → Cell → Cell → Bool
-unfolding sameBeat
-gapOk δ c d = not (sameBeat c d) || leb (c .after + d .before) δ
 
 -- The notes touching or crossing a line are those that the cells give.
 unfoldable pub givenBy : Header → List Note → List Cell → Bool

@@ -2,6 +2,7 @@
 pub mod Entering
 pub mod Reading
 pub mod Counting
+pub mod Dividing
 pub mod Listing
 pub mod Framing
 pub mod Running

@@ -7,6 +7,7 @@ ghost use Rattle.laws.specs.Chain.{clear};
 ghost use Rattle.laws.specs.Sweep.{earlier, skip, clearTwo};
 ghost use Rattle.session.specs.Reading.{lastCells};
 use crate::notes;
+use crate::rules;
 use model::Cell;
 use model::Note;
 
@@ -14,13 +15,7 @@ use model::Note;
 fn is_earlier(lane: u32, beat: u32, c: Cell) -> bool
     ensures { λ r. ⌜ r ≡ earlier lane beat c ⌝ }
 {
-    if c.lane < lane {
-        return true;
-    }
-    if c.lane != lane {
-        return false;
-    }
-    c.beat < beat
+    rules::beat_order(c.lane, c.beat) < rules::beat_order(lane, beat)
 }
 
 // The search for the first cell that does not lie before the beat of the lane, among the last `left` cells up to place `end`.

@@ -3,10 +3,10 @@ ghost use mathlib.Core.Path.{_≡_};
 ghost use Prim.Native.Nat.{_≤_, _<_};
 ghost use Rattle.model.specs.Limits.{maxBeats, maxDelta};
 ghost use Rattle.session.specs.Listing.{listOf, listAsked};
+use crate::beats;
 use crate::cells;
 use crate::notes;
 use model::Header;
-use model::Note;
 
 // What the check of a note list answers.
 pub enum ListAnswer {
@@ -24,12 +24,8 @@ pub fn check_list(h: Header, beats: u32, list: &[u32]) -> ListAnswer
     if list.len() % 4 != 0 {
         return ListAnswer::Refused;
     }
-    let mut last = Note {
-        lane: 0,
-        start: 0,
-        end: 0,
-        velocity: 0,
-    };
+    let reciprocal = beats::reciprocal(h.delta);
+    let mut last = notes::before_all();
     let mut cells: u64 = 0;
     let mut at = 0;
     while at < list.len() {
@@ -40,7 +36,7 @@ pub fn check_list(h: Header, beats: u32, list: &[u32]) -> ListAnswer
         if !notes::note_follows(last, note) {
             return ListAnswer::Refused;
         }
-        cells += cells::cell_count(h.delta, note) as u64;
+        cells += cells::cell_count_by(h.delta, reciprocal, note) as u64;
         last = note;
         at += 4;
     }

@@ -1,13 +1,13 @@
 // What soundness asks of each cell by itself and of each cell and the next.
 ghost use mathlib.Core.Path.{_≡_};
-ghost use mathlib.Core.Bool.{_&&_, not};
+ghost use mathlib.Core.Bool.{_&&_, _||_, not};
 ghost use Prim.Native.Nat.{_*_, _≤_};
 ghost use lib.ListN.{length};
 ghost use Rattle.model.specs.Lists.{every};
-ghost use Rattle.model.specs.Soundness.{cellInRange, hasTicks, memoryWithin, cellBefore, filled, partners};
+ghost use Rattle.model.specs.Binding.{fills};
+ghost use Rattle.model.specs.Soundness.{cellInRange, hasTicks, memoryWithin, filled, partners};
 ghost use Rattle.laws.specs.Chain.{cellOk, neighbours, cellsSound};
 ghost use Rattle.session.specs.Reading.{lastCells};
-ghost use Rattle.session.specs.Checking.{gapOk};
 use crate::notes;
 use crate::rules;
 use model::Cell;
@@ -61,25 +61,6 @@ fn cell_ok(delta: u32, beats: u32, c: Cell) -> bool
     has_ticks(c)
 }
 
-// Does c come before d in the order of lane, beat and side?
-fn comes_before(c: Cell, d: Cell) -> bool
-    ensures { λ r. ⌜ r ≡ cellBefore c d ⌝ }
-{
-    if c.lane < d.lane {
-        return true;
-    }
-    if c.lane != d.lane {
-        return false;
-    }
-    if c.beat < d.beat {
-        return true;
-    }
-    if c.beat != d.beat {
-        return false;
-    }
-    c.side < d.side
-}
-
 // Are they the opening and the closing cell of one piece that fills its beat?
 fn are_partners(delta: u32, c: Cell, d: Cell) -> bool
     ensures { λ r. ⌜ r ≡ partners delta c d ⌝ }
@@ -105,24 +86,22 @@ fn are_partners(delta: u32, c: Cell, d: Cell) -> bool
     c.velocity == d.velocity
 }
 
-// Do the pieces of the two cells not overlap, if they lie in one beat of one lane?
-fn gap_ok(delta: u32, c: Cell, d: Cell) -> bool
-    ensures { λ r. ⌜ r ≡ gapOk delta c d ⌝ }
+// What is asked of two cells of two beats: neither is of a piece that fills its beat.
+fn two_beats_ok(delta: u32, c: Cell, d: Cell) -> bool
+    ensures { λ r. ⌜ r ≡ not (fills delta c || filled delta d) ⌝ }
 {
-    if c.lane != d.lane {
-        return true;
+    if rules::is_filling(delta, c) {
+        return false;
     }
-    if c.beat != d.beat {
-        return true;
-    }
-    (c.after as u64) + (d.before as u64) <= (delta as u64)
+    !rules::is_filled(delta, d)
 }
 
-// What is asked of a cell and the next one.
-fn neighbours_ok(delta: u32, c: Cell, d: Cell) -> bool
+// What is asked of a cell and the next one of the same beat: their pieces are one piece, or do not overlap.
+fn one_beat_ok(delta: u32, c: Cell, d: Cell) -> bool
+    requires { ⌜ (c .lane ≡ d .lane) × (c .beat ≡ d .beat) ⌝ }
     ensures { λ r. ⌜ r ≡ neighbours delta c d ⌝ }
 {
-    if !comes_before(c, d) {
+    if d.side <= c.side {
         return false;
     }
     if rules::is_filling(delta, c) {
@@ -131,7 +110,22 @@ fn neighbours_ok(delta: u32, c: Cell, d: Cell) -> bool
     if rules::is_filled(delta, d) {
         return are_partners(delta, c, d);
     }
-    gap_ok(delta, c, d)
+    (c.after as u64) + (d.before as u64) <= (delta as u64)
+}
+
+// What is asked of a cell and the next one.
+fn neighbours_ok(delta: u32, c: Cell, d: Cell) -> bool
+    ensures { λ r. ⌜ r ≡ neighbours delta c d ⌝ }
+{
+    let c_at = rules::beat_order(c.lane, c.beat);
+    let d_at = rules::beat_order(d.lane, d.beat);
+    if c_at < d_at {
+        return two_beats_ok(delta, c, d);
+    }
+    if c_at != d_at {
+        return false;
+    }
+    one_beat_ok(delta, c, d)
 }
 
 // What is asked of the first cell: it is not the second one of a piece.

@@ -4,6 +4,7 @@ ghost use Prim.Native.Nat.{_+_, _≤_};
 ghost use lib.ListN.{length};
 ghost use Rattle.model.specs.Limits.{maxBeats, maxDelta, velocityOk};
 ghost use Rattle.model.specs.Soundness.{noteOk, follows};
+ghost use Rattle.session.specs.Checking.{beforeAll};
 ghost use Rattle.session.specs.Reading.{noteAt, cellAt};
 use model::Cell;
 use model::Header;
@@ -75,4 +76,16 @@ pub fn note_follows(m: Note, n: Note) -> bool
         return m.end <= n.start;
     }
     false
+}
+
+// A note that every note may stand behind.
+pub fn before_all() -> Note
+    ensures { λ r. ⌜ r ≡ beforeAll ⌝ }
+{
+    Note {
+        lane: 0,
+        start: 0,
+        end: 0,
+        velocity: 0,
+    }
 }

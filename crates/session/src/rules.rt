@@ -1,13 +1,20 @@
-// The rules for cells: which stand alone, which are bound, where their pieces lie; and which notes touch no line.
+// The rules for cells: their order, which stand alone, which are bound, where their pieces lie; and which notes touch no line.
 // They hold for any words: sums and products are of 64 bits.
 ghost use mathlib.Core.Path.{_≡_};
-ghost use Prim.Native.Nat.{_<_};
+ghost use Prim.Native.Nat.{_+_, _*_};
 ghost use Rattle.model.specs.Binding.{standsAlone, meet, noneAlone, bound, fills, startOf, endOf};
-ghost use Rattle.model.specs.Pieces.{inside};
+ghost use Rattle.model.specs.Pieces.{firstBeat, inside};
 ghost use Rattle.model.specs.Soundness.{filled};
 use model::Cell;
 use model::Header;
 use model::Note;
+
+// Where a beat of a lane comes in the order of lanes, then beats: a word is below 2^32, so the two are one number.
+pub fn beat_order(lane: u32, beat: u32) -> u64
+    ensures { λ r. ⌜ r ≡ lane * 4294967296 + beat ⌝ }
+{
+    (lane as u64) * 4294967296 + (beat as u64)
+}
 
 // Does the cell stand alone?
 pub fn stands_alone(h: Header, c: Cell) -> bool
@@ -119,12 +126,11 @@ pub fn end_of(delta: u32, c: Cell) -> u64
     ((c.beat as u64) + 1) * (delta as u64)
 }
 
-// Does the note touch no line?
-pub fn is_inside(delta: u32, n: Note) -> bool
-    requires { ⌜ 0 < delta ⌝ }
+// Does the note, which starts in beat `beat`, touch no line?
+pub fn is_inside(delta: u32, beat: u32, n: Note) -> bool
+    requires { ⌜ beat ≡ firstBeat delta n ⌝ }
     ensures { λ r. ⌜ r ≡ inside delta n ⌝ }
 {
-    let beat = n.start / delta;
     let line = (beat as u64) * (delta as u64);
     if (n.start as u64) <= line {
         return false;

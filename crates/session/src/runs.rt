@@ -96,6 +96,12 @@ pub fn gives_none(h: Header, part: &[u32], end: usize, left: usize) -> bool
     requires { ⌜ (6 * left ≤ end) × (end ≤ length (now part)) ⌝ }
     ensures { λ r. ⌜ r ≡ givenBy h [] (lastCells (now (part .entry)) end left) ⌝ }
 {
-    let first = first_of_run(h, part, end, left);
-    last_of_run(h, part, end, first) == 0
+    let mut at = left;
+    while 0 < at {
+        if is_shown(h, part, end, at) {
+            return last_of_run(h, part, end, at) == 0;
+        }
+        at -= 1;
+    }
+    true
 }

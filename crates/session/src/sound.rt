@@ -4,11 +4,13 @@ ghost use mathlib.Core.Bool.{true, false, _&&_};
 ghost use Prim.Native.Nat.{_+_, _*_, _<_, _≤_};
 ghost use lib.ListN.{length};
 ghost use Rattle.model.specs.Limits.{maxBeats, maxDelta, minWords};
-ghost use Rattle.model.specs.Pieces.{inside};
+ghost use Rattle.model.specs.Pieces.{firstBeat, inside};
 ghost use Rattle.model.specs.Soundness.{noteOk, follows, soundShelf};
 ghost use Rattle.model.specs.Takes.{wordsUsed};
-ghost use Rattle.session.specs.Checking.{Passes, beforeAll, notesAsked};
+ghost use Rattle.session.specs.Checking.{Passes, notesAsked};
+ghost use Rattle.session.specs.Dividing.{reciprocalOf};
 ghost use Rattle.session.specs.Reading.{lastNotes, lastCells};
+use crate::beats;
 use crate::clear;
 use crate::layout;
 use crate::neighbours;
@@ -29,11 +31,18 @@ pub struct Passed {
 }
 
 // A note that touches no line: is it clear of the pieces in its beat?
-fn pass_inner(h: Header, part: &[u32], end: usize, n: Note, beside: usize, line: usize) -> Passed
-    requires { ⌜ (6 * beside ≤ end) × (end ≤ length (now part)) × (0 < h .delta) × (inside (h .delta) n ≡ true) ⌝ }
+fn pass_inner(
+    h: Header,
+    part: &[u32],
+    end: usize,
+    n: Note,
+    beat: u32,
+    beside: usize,
+    line: usize,
+) -> Passed
+    requires { ⌜ (6 * beside ≤ end) × (end ≤ length (now part)) × (0 < h .delta) × (inside (h .delta) n ≡ true) × (beat ≡ firstBeat (h .delta) n) ⌝ }
     ensures { λ r. ⌜ Passes h (now (part .entry)) end n beside line r ⌝ }
 {
-    let beat = n.start / h.delta;
     let left = clear::cells_from(part, end, beside, n.lane, beat);
     let right = clear::is_clear_of_two(h.delta, part, end, left, beat, n);
     Passed {
@@ -68,12 +77,21 @@ fn pass_line(h: Header, part: &[u32], end: usize, n: Note, beside: usize, line: 
 }
 
 // Does the note stand rightly beside the cells?
-fn pass(h: Header, part: &[u32], end: usize, n: Note, beside: usize, line: usize) -> Passed
-    requires { ⌜ (6 * beside ≤ end) × (6 * line ≤ end) × (end ≤ length (now part)) × (0 < h .delta) ⌝ }
+fn pass(
+    h: Header,
+    reciprocal: u64,
+    part: &[u32],
+    end: usize,
+    n: Note,
+    beside: usize,
+    line: usize,
+) -> Passed
+    requires { ⌜ (6 * beside ≤ end) × (6 * line ≤ end) × (end ≤ length (now part)) × (0 < h .delta) × (h .delta ≤ maxDelta) × (reciprocal ≡ reciprocalOf (h .delta)) × (n .start ≤ maxBeats * h .delta) ⌝ }
     ensures { λ r. ⌜ Passes h (now (part .entry)) end n beside line r ⌝ }
 {
-    if rules::is_inside(h.delta, n) {
-        return pass_inner(h, part, end, n, beside, line);
+    let beat = beats::beat_of(h.delta, reciprocal, n.start);
+    if rules::is_inside(h.delta, beat, n) {
+        return pass_inner(h, part, end, n, beat, beside, line);
     }
     pass_line(h, part, end, n, beside, line)
 }
@@ -89,26 +107,15 @@ fn in_order(delta: u32, beats: u32, last: Note, n: Note) -> bool
     notes::note_follows(last, n)
 }
 
-// A note that every note may stand behind.
-fn before_all() -> Note
-    ensures { λ r. ⌜ r ≡ beforeAll ⌝ }
-{
-    Note {
-        lane: 0,
-        start: 0,
-        end: 0,
-        velocity: 0,
-    }
-}
-
 // What is asked of the notes: ranges, order, and that they stand rightly beside the cells.
 pub fn notes_ok(h: Header, beats: u32, part: &[u32], notes: usize, cells: usize) -> bool
     requires { ⌜ (0 < h .delta) × (h .delta ≤ maxDelta) × (beats ≤ maxBeats) × (wordsUsed notes cells ≤ length (now part)) ⌝ }
     ensures { λ r. ⌜ r ≡ notesAsked h beats (lastNotes (now (part .entry)) (3 + 4 * notes) notes) (lastCells (now (part .entry)) (wordsUsed notes cells) cells) ⌝ }
 {
+    let reciprocal = beats::reciprocal(h.delta);
     let notes_end = 3 + 4 * notes;
     let end = notes_end + 6 * cells;
-    let mut last = before_all();
+    let mut last = notes::before_all();
     let mut left = notes;
     let mut beside = cells;
     let mut line = cells;
@@ -117,7 +124,7 @@ pub fn notes_ok(h: Header, beats: u32, part: &[u32], notes: usize, cells: usize)
         if !in_order(h.delta, beats, last, n) {
             return false;
         }
-        let passed = pass(h, part, end, n, beside, line);
+        let passed = pass(h, reciprocal, part, end, n, beside, line);
         if !passed.right {
             return false;
         }

@@ -1,21 +1,20 @@
 -- `session::clear::is_earlier` meets its contract. Assumes nothing.
-use Rattle.laws.specs.Sweep.{earlier}
 use native.Mathlib.Omega.{arith}
-use borrow.Author.Tests.{lt-ltb, le-ltb, lt-leb, le-leb, eq-eqb, ne-eqb}
+use Rattle.laws.specs.Sweep.{earlier}
+use Rattle.session.proofs.WaysOut.{one-number}
+use borrow.Author.Needs.{needs}
 use Rattle.session.proofs.clear.is_earlier.Statement.{statement}
 use Rattle.session.proofs.clear.is_earlier.Tie as tie
 
+beat-order-requires : tie.Need-beat-order-requires
+beat-order-requires c κs = search needs
+
+beat-order-requires-2 : tie.Need-beat-order-requires-2
+beat-order-requires-2 c κs = search needs
+
 returns : tie.Need-returns
 unfolding earlier
-returns c = search (lt-ltb, le-ltb, lt-leb, le-leb, eq-eqb, ne-eqb, arith)
-
-returns-2 : tie.Need-returns-2
-unfolding earlier
-returns-2 c = search (lt-ltb, le-ltb, lt-leb, le-leb, eq-eqb, ne-eqb, arith)
-
-returns-3 : tie.Need-returns-3
-unfolding earlier
-returns-3 c = search (lt-ltb, le-ltb, lt-leb, le-leb, eq-eqb, ne-eqb, arith)
+returns c = one-number _ _ _ _ (omega arith) (omega arith) (c .before .beat-order .ensures) (c .beat-order2 .ensures)
 
 pub is-earlier-spec : {M : Type 1} → statement M
-is-earlier-spec = tie.close (tie.spec returns returns-2 returns-3)
+is-earlier-spec = tie.close (tie.spec beat-order-requires beat-order-requires-2 returns)

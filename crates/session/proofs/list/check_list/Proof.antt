@@ -11,16 +11,22 @@ use Rattle.session.proofs.list.check_list.Statement.{statement}
 use Rattle.session.proofs.list.check_list.Tie as tie
 
 abbrev Inv-loop : tie.InvT-loop
-Inv-loop h beats list last₀ cells₀ at₀ last cells at = Checked (h .delta) beats list last cells at
+Inv-loop h beats list reciprocal last₀ cells₀ at₀ last cells at = Checked (h .delta) beats list last cells at
 
 abbrev μ-loop : tie.MeasureT-loop
-μ-loop h beats list last₀ cells₀ at₀ last cells at = length list - at
+μ-loop h beats list reciprocal last₀ cells₀ at₀ last cells at = length list - at
 
 returns : tie.Need-returns Inv-loop μ-loop
 returns c = not-whole _ _ _ (c .if1 .taken)
 
+reciprocal-requires : tie.Need-reciprocal-requires Inv-loop μ-loop
+reciprocal-requires c κs = search needs
+
+before-all-requires : tie.Need-before-all-requires Inv-loop μ-loop
+before-all-requires c κs = search needs
+
 loop-holds : tie.Need-loop-holds Inv-loop μ-loop
-loop-holds c = checked-start _ _ _ (c .if1 .left)
+loop-holds c = checked-start _ _ _ (c .before-all .ensures) (c .before .before .if1 .left)
 
 note-at-requires : tie.Need-note-at-requires Inv-loop μ-loop
 note-at-requires c κs = room-for-note _ _ _ (c .before .loop .inv) (c .loop-test .taken)
@@ -37,14 +43,16 @@ note-follows-requires c κs = search needs
 returns-3 : tie.Need-returns-3 Inv-loop μ-loop
 returns-3 c = not-ok _ _ _ (not-follows _ _ _ (c .before .before .before .before .before .before .loop .inv) (c .before .before .before .before .before .loop-test .taken) (c .before .before .before .before .note-at .ensures) (sym (c .before .note-follows .ensures) ∙ not-true _ (c .if3 .taken)))
 
-cell-count-requires : tie.Need-cell-count-requires Inv-loop μ-loop
-cell-count-requires c κs = count-asks _ _ _ (c .before .before .before .before .before .before .before .before .before .pre) (fair _ _ _ (sym (c .before .before .before .note-ok .ensures) ∙ not-false _ (c .before .before .if2 .left)))
+cell-count-by-requires : tie.Need-cell-count-by-requires Inv-loop μ-loop
+cell-count-by-requires c κs =
+    let asks = count-asks _ _ _ (c .before .before .before .before .before .before .before .before .before .before .before .pre) (fair _ _ _ (sym (c .before .before .before .note-ok .ensures) ∙ not-false _ (c .before .before .if2 .left))) in
+    (asks .0, asks .1, asks .2, asks .3, c .before .before .before .before .before .before .before .before .reciprocal .ensures)
 
 cast-cells : tie.Need-cast-cells Inv-loop μ-loop
 cast-cells c = search needs
 
 add-cells : tie.Need-add-cells Inv-loop μ-loop
-add-cells c = omega (arith, count-small _ _ _ (checked-note _ _ _ (c .before .before .before .before .before .before .before .loop .inv) (c .before .before .before .before .before .before .loop-test .taken) (c .before .before .before .before .before .note-at .ensures) (c .before .before .before .before .before .before .before .before .before .before .pre) (sym (c .before .before .before .before .note-ok .ensures) ∙ not-false _ (c .before .before .before .if2 .left)) (sym (c .before .before .note-follows .ensures) ∙ not-false _ (c .before .if3 .left)) (c .cell-count .ensures)) (c .before .before .before .before .before .before .before .before .before .before .pre))
+add-cells c = omega (arith, count-small _ _ _ (checked-note _ _ _ (c .before .before .before .before .before .before .before .loop .inv) (c .before .before .before .before .before .before .loop-test .taken) (c .before .before .before .before .before .note-at .ensures) (c .before .before .before .before .before .before .before .before .before .before .before .before .pre) (sym (c .before .before .before .before .note-ok .ensures) ∙ not-false _ (c .before .before .before .if2 .left)) (sym (c .before .before .note-follows .ensures) ∙ not-false _ (c .before .if3 .left)) (c .cell-count-by .ensures)) (c .before .before .before .before .before .before .before .before .before .before .before .before .pre))
 
 add-at : tie.Need-add-at Inv-loop μ-loop
 add-at c = omega (arith, room-for-note _ _ _ (c .before .before .before .before .before .before .before .loop .inv) (c .before .before .before .before .before .before .loop-test .taken))
@@ -53,12 +61,12 @@ loop-less : tie.Need-loop-less Inv-loop μ-loop
 loop-less c = search needs
 
 loop-again : tie.Need-loop-again Inv-loop μ-loop
-loop-again c = checked-note _ _ _ (c .before .before .before .before .before .before .before .loop .inv) (c .before .before .before .before .before .before .loop-test .taken) (c .before .before .before .before .before .note-at .ensures) (c .before .before .before .before .before .before .before .before .before .before .pre) (sym (c .before .before .before .before .note-ok .ensures) ∙ not-false _ (c .before .before .before .if2 .left)) (sym (c .before .before .note-follows .ensures) ∙ not-false _ (c .before .if3 .left)) (c .cell-count .ensures)
+loop-again c = checked-note _ _ _ (c .before .before .before .before .before .before .before .loop .inv) (c .before .before .before .before .before .before .loop-test .taken) (c .before .before .before .before .before .note-at .ensures) (c .before .before .before .before .before .before .before .before .before .before .before .before .pre) (sym (c .before .before .before .before .note-ok .ensures) ∙ not-false _ (c .before .before .before .if2 .left)) (sym (c .before .before .note-follows .ensures) ∙ not-false _ (c .before .if3 .left)) (c .cell-count-by .ensures)
 
 returns-4 : tie.Need-returns-4 Inv-loop μ-loop
 returns-4 c =
     let done = checked-done _ _ _ (c .before .loop .inv) (c .loop-test .left) in
-    counted _ _ _ (c .before .before .if1 .left) (done .0) _ (done .1)
+    counted _ _ _ (c .before .before .before .before .if1 .left) (done .0) _ (done .1)
 
 pub check-list-spec : {M : Type 1} → statement M
 check-list-spec =
@@ -67,13 +75,15 @@ check-list-spec =
     Inv-loop
     μ-loop
     returns
+    reciprocal-requires
+    before-all-requires
     loop-holds
     note-at-requires
     note-ok-requires
     returns-2
     note-follows-requires
     returns-3
-    cell-count-requires
+    cell-count-by-requires
     cast-cells
     add-cells
     add-at

@@ -1,50 +1,39 @@
 -- `session::neighbours::neighbours_ok` meets its contract. Assumes nothing.
-use Rattle.session.proofs.WaysOut.{order-no, first-fills, second-filled, by-gap}
+use native.Mathlib.Omega.{arith}
+use Rattle.session.proofs.WaysOut.{order-no, two-beats}
 use borrow.Author.Needs.{needs}
 use Rattle.session.proofs.neighbours.neighbours_ok.Statement.{statement}
 use Rattle.session.proofs.neighbours.neighbours_ok.Tie as tie
 
-comes-before-requires : tie.Need-comes-before-requires
-comes-before-requires c κs = search needs
+beat-order-requires : tie.Need-beat-order-requires
+beat-order-requires c κs = search needs
+
+beat-order-requires-2 : tie.Need-beat-order-requires-2
+beat-order-requires-2 c κs = search needs
+
+two-beats-ok-requires : tie.Need-two-beats-ok-requires
+two-beats-ok-requires c κs = search needs
 
 returns : tie.Need-returns
-returns c = search (order-no, first-fills, second-filled, by-gap)
-
-is-filling-requires : tie.Need-is-filling-requires
-is-filling-requires c κs = search needs
-
-are-partners-requires : tie.Need-are-partners-requires
-are-partners-requires c κs = search needs
+returns c = two-beats _ _ _ (omega arith) (omega arith) (c .before .before .before .beat-order .ensures) (c .before .before .beat-order2 .ensures) (c .before .if1 .taken) (c .two-beats-ok .ensures)
 
 returns-2 : tie.Need-returns-2
-returns-2 c = search (order-no, first-fills, second-filled, by-gap)
+returns-2 c = order-no _ _ _ (omega arith) (omega arith) (c .before .before .before .beat-order .ensures) (c .before .before .beat-order2 .ensures) (c .before .if1 .left) (c .if2 .taken)
 
-is-filled-requires : tie.Need-is-filled-requires
-is-filled-requires c κs = search needs
-
-are-partners-requires-2 : tie.Need-are-partners-requires-2
-are-partners-requires-2 c κs = search needs
+one-beat-ok-requires : tie.Need-one-beat-ok-requires
+one-beat-ok-requires c κs = search needs
 
 returns-3 : tie.Need-returns-3
-returns-3 c = search (order-no, first-fills, second-filled, by-gap)
-
-gap-ok-requires : tie.Need-gap-ok-requires
-gap-ok-requires c κs = search needs
-
-returns-4 : tie.Need-returns-4
-returns-4 c = search (order-no, first-fills, second-filled, by-gap)
+returns-3 c = search needs
 
 pub neighbours-ok-spec : {M : Type 1} → statement M
 neighbours-ok-spec =
     tie.close
     (tie.spec
-    comes-before-requires
+    beat-order-requires
+    beat-order-requires-2
+    two-beats-ok-requires
     returns
-    is-filling-requires
-    are-partners-requires
     returns-2
-    is-filled-requires
-    are-partners-requires-2
-    returns-3
-    gap-ok-requires
-    returns-4)
+    one-beat-ok-requires
+    returns-3)

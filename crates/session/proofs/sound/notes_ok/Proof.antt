@@ -1,15 +1,18 @@
 -- `session::sound::notes_ok` meets its contract. The measure is how many notes are left. Assumes nothing.
 use native.Mathlib.Omega.{arith}
-use Rattle.session.proofs.Standings.{Asking, asking-all, asked-all, not-in-order, not-right, asking-next}
+use Rattle.session.proofs.Standings.{Asking, start-within, asking-all, asked-all, not-in-order, not-right, asking-next}
 use borrow.Author.Needs.{needs}
 use Rattle.session.proofs.sound.notes_ok.Statement.{statement}
 use Rattle.session.proofs.sound.notes_ok.Tie as tie
 
 abbrev Inv-loop : tie.InvT-loop
-Inv-loop h beats part notes cells notes-end end last₀ left₀ beside₀ line₀ last left beside line = Asking h beats part notes-end end notes cells last left beside line
+Inv-loop h beats part notes cells reciprocal notes-end end last₀ left₀ beside₀ line₀ last left beside line = Asking h beats part notes-end end notes cells last left beside line
 
 abbrev μ-loop : tie.MeasureT-loop
-μ-loop h beats part notes cells notes-end end last₀ left₀ beside₀ line₀ last left beside line = left
+μ-loop h beats part notes cells reciprocal notes-end end last₀ left₀ beside₀ line₀ last left beside line = left
+
+reciprocal-requires : tie.Need-reciprocal-requires Inv-loop μ-loop
+reciprocal-requires c κs = search needs
 
 mul-notes-end : tie.Need-mul-notes-end Inv-loop μ-loop
 mul-notes-end c = search needs
@@ -45,7 +48,7 @@ returns : tie.Need-returns Inv-loop μ-loop
 returns c = not-in-order _ _ _ _ _ _ _ (c .before .before .before .before .loop .inv) (c .before .before .before .loop-test .taken) (omega (arith, c .before .before .before .before .loop .inv .notes-left)) (c .before .before .note-at .ensures) (c .before .in-order .ensures) (c .if1 .taken)
 
 pass-requires : tie.Need-pass-requires Inv-loop μ-loop
-pass-requires c κs = search needs
+pass-requires c κs = search (start-within, needs)
 
 returns-2 : tie.Need-returns-2 Inv-loop μ-loop
 returns-2 c = not-right _ _ _ _ _ _ _ (c .before .before .before .before .before .before .before .loop .inv) (c .before .before .before .before .before .before .loop-test .taken) (omega (arith, c .before .before .before .before .before .before .before .loop .inv .notes-left)) (c .before .before .before .before .before .note-at .ensures) (c .before .before .before .before .in-order .ensures) (c .before .before .before .if1 .left) (c .before .before .pass .ensures) (c .if2 .taken)
@@ -71,6 +74,7 @@ notes-ok-spec =
     (tie.spec
     Inv-loop
     μ-loop
+    reciprocal-requires
     mul-notes-end
     add-notes-end
     mul-end

@@ -1,8 +1,8 @@
--- `session::sound::before_all` meets its contract. Assumes nothing.
+-- `session::notes::before_all` meets its contract. Assumes nothing.
 use mathlib.Core.Path.{refl}
 use Rattle.session.specs.Checking.{beforeAll}
-use Rattle.session.proofs.sound.before_all.Statement.{statement}
-use Rattle.session.proofs.sound.before_all.Tie as tie
+use Rattle.session.proofs.notes.before_all.Statement.{statement}
+use Rattle.session.proofs.notes.before_all.Tie as tie
 
 returns : tie.Need-returns
 unfolding beforeAll
