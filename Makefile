@@ -7,6 +7,7 @@
 CARGO = cargo --offline
 PREFIX ?= /usr/local
 VERSION = 0.1
+BUILD = build
 ARCHIVES = target/staticlib/libbeat.a target/staticlib/libfile.a
 
 CFLAGS ?= -O2
@@ -26,23 +27,23 @@ library: prove
 
 # One library of the two proved archives.
 archive:
-	@mkdir -p build
-	rm -f build/libzikorewi.a
-	@{ echo 'create build/libzikorewi.a'; for a in $(ARCHIVES); do echo "addlib $$a"; done; echo 'save'; echo 'end'; } | ar -M
+	@mkdir -p $(BUILD)
+	rm -f $(BUILD)/libzikorewi.a
+	@{ echo 'create $(BUILD)/libzikorewi.a'; for a in $(ARCHIVES); do echo "addlib $$a"; done; echo 'save'; echo 'end'; } | ar -M
 
 # The editor and the demonstration, linked with that library.
 programs: archive
-	$(CC) $(CSTRICT) $(CFLAGS) $(LDFLAGS) -Iinclude $(EDITOR) $(SHARED) build/libzikorewi.a -o build/takecut
-	$(CC) $(CSTRICT) $(CFLAGS) $(LDFLAGS) -Iinclude host/demo.c $(SHARED) build/libzikorewi.a -o build/takecut-demo
+	$(CC) $(CSTRICT) $(CFLAGS) $(LDFLAGS) -Iinclude $(EDITOR) $(SHARED) $(BUILD)/libzikorewi.a -o $(BUILD)/takecut
+	$(CC) $(CSTRICT) $(CFLAGS) $(LDFLAGS) -Iinclude host/demo.c $(SHARED) $(BUILD)/libzikorewi.a -o $(BUILD)/takecut-demo
 
 run: all
 	@echo
-	@build/takecut-demo
+	@$(BUILD)/takecut-demo
 
 # The demonstration's pictures, which the README shows.
 pictures: all
 	@mkdir -p docs/pictures
-	build/takecut-demo --pictures docs/pictures
+	$(BUILD)/takecut-demo --pictures docs/pictures
 
 cases: prove
 	@$(CARGO) run --quiet --release --manifest-path reference/Cargo.toml --bin cases
@@ -61,8 +62,8 @@ install-files:
 	install -d $(DESTDIR)$(PREFIX)/include $(DESTDIR)$(PREFIX)/lib/pkgconfig $(DESTDIR)$(PREFIX)/bin
 	install -d $(DESTDIR)$(PREFIX)/share/man/man1 $(DESTDIR)$(PREFIX)/share/man/man3
 	install -m 644 include/zikorewi.h $(DESTDIR)$(PREFIX)/include/
-	install -m 644 build/libzikorewi.a $(DESTDIR)$(PREFIX)/lib/
-	install -m 755 build/takecut target/bin/cutter $(DESTDIR)$(PREFIX)/bin/
+	install -m 644 $(BUILD)/libzikorewi.a $(DESTDIR)$(PREFIX)/lib/
+	install -m 755 $(BUILD)/takecut target/bin/cutter $(DESTDIR)$(PREFIX)/bin/
 	install -m 644 man/takecut.1 man/cutter.1 $(DESTDIR)$(PREFIX)/share/man/man1/
 	install -m 644 man/zikorewi.3 $(DESTDIR)$(PREFIX)/share/man/man3/
 	printf 'prefix=%s\nincludedir=$${prefix}/include\nlibdir=$${prefix}/lib\n\nName: zikorewi\nDescription: cuts and joins takes of MIDI notes on beat lines\nVersion: %s\nCflags: -I$${includedir}\nLibs: -L$${libdir} -lzikorewi\n' \

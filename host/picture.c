@@ -127,7 +127,7 @@ static void print_note(FILE *out, const struct View *view, struct Piece note)
     uint64_t x = across(view, note.start);
     uint64_t width = across(view, note.end) - x;
     size_t y = TOP + row(view, note.lane) * ROW + GAP;
-    unsigned shade = 208 - note.velocity;
+    unsigned shade = 230 - note.velocity * 3 / 2;
     width = width < EDGE ? EDGE : width;
     fprintf(out, "<rect x=\"%" PRIu64 "\" y=\"%zu\" width=\"%" PRIu64 "\" height=\"%d\" fill=\"#%02x%02x%02x\"/>\n",
             x, y, width, ROW - 2 * GAP, shade, shade, shade);

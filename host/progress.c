@@ -81,8 +81,8 @@ void progress_clear(void)
 
 void progress_end(size_t done, size_t total)
 {
-    if (on && done > 1) {
-        progress_clear();
+    progress_clear();
+    if (on && !terminal) {
         print_count(done, total);
         fputc('\n', stderr);
     }

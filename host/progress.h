@@ -17,7 +17,7 @@ void progress_reading(const char *path, size_t bytes);
 /* Takes the line away, before something else is printed. */
 void progress_clear(void);
 
-/* The last count, which stays. */
+/* The end of the work: the last count, or on a terminal nothing. */
 void progress_end(size_t done, size_t total);
 
 #endif

@@ -49,29 +49,48 @@ void takes_end(struct Host *host)
     session_close(&host->session);
 }
 
-/* Prints a text whose control characters would disturb a terminal. */
-static void put_plain(const char *text)
+enum { SHOWN_LINE = 60 };
+
+/* Prints so many bytes of a text, without control characters, which would disturb a terminal. */
+static void put_plain(const char *text, size_t bytes)
 {
-    for (; *text != '\0'; text++) {
+    for (; *text != '\0' && bytes > 0; text++, bytes--) {
         fputc((unsigned char)*text < ' ' || *text == 0x7F ? '?' : *text, stderr);
     }
+}
+
+/* Which command a message is about: the beginning of its line. */
+static void put_place(const struct Host *host)
+{
+    fprintf(stderr, "%s: ", host->place);
+    if (strlen(host->line) > SHOWN_LINE) {
+        put_plain(host->line, SHOWN_LINE - 3);
+        fputs("...", stderr);
+    } else {
+        put_plain(host->line, SHOWN_LINE);
+    }
+    fputs(": ", stderr);
 }
 
 enum Status complain(const struct Host *host, enum Status status, const char *form, ...)
 {
     va_list values;
+    va_start(values, form);
+    int bytes = vsnprintf(NULL, 0, form, values);
+    va_end(values);
+    char *text = memory_new((size_t)bytes + 1, 1);
+    va_start(values, form);
+    vsnprintf(text, (size_t)bytes + 1, form, values);
+    va_end(values);
     progress_clear();
     fflush(stdout);
     fputs("takecut: ", stderr);
     if (host->place != NULL) {
-        fprintf(stderr, "%s: ", host->place);
-        put_plain(host->line);
-        fputs(": ", stderr);
+        put_place(host);
     }
-    va_start(values, form);
-    vfprintf(stderr, form, values);
-    va_end(values);
+    put_plain(text, (size_t)bytes);
     fputc('\n', stderr);
+    free(text);
     return status;
 }
 
