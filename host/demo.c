@@ -213,7 +213,7 @@ int main(int count, char **words)
     enum Status status = healed(&session) ? show(&session, pictures ? words[2] : NULL, ascii)
                                           : fail("the parts joined again differ from the take");
     session_close(&session);
-    if (fflush(stdout) != 0) {
+    if (fflush(stdout) != 0 || ferror(stdout)) {
         return fail("standard output cannot be written");
     }
     return status;

@@ -107,13 +107,17 @@ static int label_width(const struct View *view)
     return width;
 }
 
+/* The beats' numbers above their lines: as many as have room. */
 static void print_numbers(FILE *out, const struct System *system, int width)
 {
+    uint32_t digits = (uint32_t)snprintf(NULL, 0, "%" PRIu32, system->behind - 1);
+    uint32_t step = digits / (system->wide + 1) + 1;
+    uint32_t beat = system->first;
     fprintf(out, "%*s ", width, "");
-    for (uint32_t beat = system->first; beat + 1 < system->behind; beat++) {
-        fprintf(out, "%-*" PRIu32, (int)system->wide + 1, beat);
+    for (; system->behind - beat > step; beat += step) {
+        fprintf(out, "%-*" PRIu32, (int)((system->wide + 1) * step), beat);
     }
-    fprintf(out, "%" PRIu32 "\n", system->behind - 1);
+    fprintf(out, "%" PRIu32 "\n", beat);
 }
 
 static void print_row(FILE *out, const struct System *system, uint32_t lane, int width, bool ascii)

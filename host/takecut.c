@@ -149,8 +149,11 @@ static enum Status run_input(struct Host *host)
             break;
         }
         status = run_bytes(host, ++done, line, (size_t)length);
-        status = asks ? STATUS_DONE : status;
-        progress_commands(done, 0);
+        if (asks) {
+            status = STATUS_DONE;
+        } else {
+            progress_commands(done, 0);
+        }
     }
     if (ferror(stdin) || (!feof(stdin) && errno == ENOMEM)) {
         status = complain(host, STATUS_TROUBLE, "standard input: %s", strerror(errno));
@@ -192,8 +195,7 @@ int main(int count, char **words)
         status = run(&options);
     }
     options_free(&options);
-    bool wrong = ferror(stdout) != 0;
-    if (fflush(stdout) != 0 || wrong) {
+    if (fflush(stdout) != 0 || ferror(stdout)) {
         fprintf(stderr, "takecut: standard output cannot be written: %s\n", strerror(errno));
         return STATUS_TROUBLE;
     }

@@ -12,6 +12,10 @@ printed roll-narrow.txt
 check 'no line is wider than 40 columns' [ "$(sed '$d' out | tail -n +2 | wc -L)" -le 40 ]
 carried_out --ticks 4 -e 'lay none 0' -e 'lay silent 2' -e 'roll none' -e 'roll silent'
 printed roll-empty.txt
+carried_out --ticks 10 --columns 50 --ascii -e 'lay a 12 60 0 25 9 61 12 105 90' -e 'roll a'
+printed roll-lines.txt
+carried_out --ticks 1 --columns 40 -e 'lay a 30 60 0 25 9 61 12 17 90' -e 'roll a'
+printed roll-ticks.txt
 carried_out "${take[@]}" -e 'picture b picture.svg'
 check 'the picture is the stored one' cmp picture.svg "$expected/picture.svg"
 carried_out "${take[@]}" -e $'copy b "<a & \'b\' \\"c\\">\x01\xff\xc3\xa9"' -e $'picture "<a & \'b\' \\"c\\">\x01\xff\xc3\xa9" name.svg'

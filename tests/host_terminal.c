@@ -5,6 +5,7 @@
 #include <stdlib.h>
 #include <string.h>
 #include <sys/wait.h>
+#include <time.h>
 #include <unistd.h>
 
 static int fail(const char *what)
@@ -37,24 +38,10 @@ static void listen(int terminal, char *text, size_t room)
     text[count] = '\0';
 }
 
-int main(int count, char **words)
+/* Whether the program ended well and said what it should. */
+static int verdict(pid_t child, const char *text)
 {
-    static const char COMMANDS[] = "nonsense\nlay a 2\ntakes\nquit\n";
-    char text[8192];
     int status;
-    int terminal = posix_openpt(O_RDWR | O_NOCTTY);
-    if (count != 2 || terminal < 0 || grantpt(terminal) != 0 || unlockpt(terminal) != 0) {
-        return fail("no terminal");
-    }
-    const char *name = ptsname(terminal);
-    pid_t child = fork();
-    if (child == 0) {
-        become(words[1], name);
-    }
-    if (child < 0 || write(terminal, COMMANDS, sizeof COMMANDS - 1) != (ssize_t)sizeof COMMANDS - 1) {
-        return fail("no program");
-    }
-    listen(terminal, text, sizeof text);
     if (waitpid(child, &status, 0) != child || !WIFEXITED(status) || WEXITSTATUS(status) != 0) {
         return fail("the program did not end with 0");
     }
@@ -64,5 +51,30 @@ int main(int count, char **words)
     if (strstr(text, "line 1: nonsense: there is no such command") == NULL) {
         return fail("the wrong command has no message");
     }
+    if (strstr(text, " commands\r") != NULL) {
+        return fail("progress stands between the prompts");
+    }
     return strstr(text, "a: beats 2, notes 0") == NULL ? fail("the commands after it were not run") : 0;
+}
+
+int main(int count, char **words)
+{
+    static const char FIRST[] = "nonsense\nlay a 2\n", LAST[] = "takes\nquit\n";
+    const struct timespec pause = {0, 600000000}; /* long enough for a line of progress */
+    char text[8192];
+    int terminal = posix_openpt(O_RDWR | O_NOCTTY);
+    if (count != 2 || terminal < 0 || grantpt(terminal) != 0 || unlockpt(terminal) != 0) {
+        return fail("no terminal");
+    }
+    const char *name = ptsname(terminal);
+    pid_t child = fork();
+    if (child == 0) {
+        become(words[1], name);
+    }
+    if (child < 0 || write(terminal, FIRST, sizeof FIRST - 1) < 0 || nanosleep(&pause, NULL) != 0 ||
+        write(terminal, LAST, sizeof LAST - 1) < 0) {
+        return fail("no program");
+    }
+    listen(terminal, text, sizeof text);
+    return verdict(child, text);
 }
