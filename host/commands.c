@@ -5,6 +5,7 @@
 
 #include <string.h>
 
+/* Lists the commands. */
 static enum Status command_help(struct Host *host, char **words, size_t count)
 {
     (void)host;
@@ -14,6 +15,7 @@ static enum Status command_help(struct Host *host, char **words, size_t count)
     return STATUS_DONE;
 }
 
+/* Ends the reading of commands. */
 static enum Status command_quit(struct Host *host, char **words, size_t count)
 {
     (void)words;
@@ -24,12 +26,14 @@ static enum Status command_quit(struct Host *host, char **words, size_t count)
 
 const struct Command COMMANDS[] = {
     {"load", "NAME FILE", "the recording of a .mid file", 3, 3, false, command_load},
-    {"lay", "NAME BEATS [LANE START END VELOCITY]...", "a recording from notes; lane = channel x 128 + key", 3, SIZE_MAX, false, command_lay},
+    {"lay", "NAME BEATS [LANE START END VELOCITY]...", "a recording from notes; lane = channel x 128 + key",
+     3, SIZE_MAX, false, command_lay},
     {"write", "NAME FILE", "the take as a .mid file", 3, 3, false, command_write},
     {"split", "NAME BEAT LEFT RIGHT", "the beats before BEAT, and the others", 5, 5, false, command_split},
     {"join", "FIRST SECOND RESULT", "the second take behind the first", 4, 4, false, command_join},
     {"cut", "NAME FROM TO RESULT", "the take without beats FROM to TO - 1", 5, 5, false, command_cut},
-    {"insert", "NAME BEAT OTHER RESULT [FROM TO]", "the other take, or its beats FROM to TO - 1, before BEAT", 5, 7, false, command_insert},
+    {"insert", "NAME BEAT OTHER RESULT [FROM TO]", "the other take, or its beats FROM to TO - 1, before BEAT",
+     5, 7, false, command_insert},
     {"copy", "NAME RESULT", "the take under another name", 3, 3, false, command_copy},
     {"drop", "NAME", "forget the take", 2, 2, false, command_drop},
     {"takes", "", "list the takes", 1, 1, true, command_takes},
@@ -56,6 +60,7 @@ void commands_help(FILE *out)
     }
 }
 
+/* The command of a name, or NULL. */
 static const struct Command *find(const char *name)
 {
     const struct Command *command = COMMANDS;
@@ -65,6 +70,7 @@ static const struct Command *find(const char *name)
     return command->name == NULL ? NULL : command;
 }
 
+/* Carries out a command whose words are parted. */
 static enum Status run_words(struct Host *host, struct Words *words)
 {
     if (words->count == 0) {

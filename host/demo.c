@@ -58,6 +58,7 @@ static const struct Panel PANELS[] = {
     {"5-pasted.svg", "Beat 2 pasted behind a silent beat and cut again", PASTED, SAID_PASTED},
 };
 
+/* Says why the demonstration ends. */
 static enum Status fail(const char *what)
 {
     fprintf(stderr, "takecut-demo: %s\n", what);
@@ -158,6 +159,7 @@ static char *drawn(const struct Session *session, const struct Panel *panel, boo
     return text;
 }
 
+/* Writes one picture to a folder. */
 static enum Status write_picture(const char *folder, const char *file, const char *text)
 {
     char *path = memory_new(strlen(folder) + strlen(file) + 2, 1);
@@ -198,6 +200,7 @@ static bool healed(const struct Session *session)
                   session->shelf_words * sizeof *session->words) == 0;
 }
 
+/* The demonstration shows nothing unless the healed take is the recording. */
 int main(int count, char **words)
 {
     struct Session session = {0};

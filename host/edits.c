@@ -62,6 +62,7 @@ static bool beat_of(struct Host *host, const char *word, uint32_t *beat, enum St
     return true;
 }
 
+/* The beats of a shelf's take, for messages. */
 static uint32_t beats_in(const struct Host *host, uint32_t shelf)
 {
     return session_shelf(&host->session, shelf)[0];
@@ -96,6 +97,7 @@ static bool join(struct Host *host, uint32_t first, uint32_t second, uint32_t re
     return number == ZIKOREWI_DONE;
 }
 
+/* split NAME BEAT LEFT RIGHT */
 enum Status command_split(struct Host *host, char **words, size_t count)
 {
     enum Status status = STATUS_REFUSED;
@@ -121,6 +123,7 @@ enum Status command_split(struct Host *host, char **words, size_t count)
     return status;
 }
 
+/* join FIRST SECOND RESULT */
 enum Status command_join(struct Host *host, char **words, size_t count)
 {
     enum Status status = STATUS_REFUSED;
@@ -153,6 +156,7 @@ static bool stretch_of(struct Host *host, char **words, uint32_t *from, uint32_t
     return true;
 }
 
+/* cut NAME FROM TO RESULT: split, split, and the outer parts joined. */
 enum Status command_cut(struct Host *host, char **words, size_t count)
 {
     enum Status status = STATUS_REFUSED;
@@ -194,6 +198,7 @@ static bool insert(struct Host *host, uint32_t take, uint32_t beat, uint32_t oth
            join(host, part[2], part[1], part[0], status);
 }
 
+/* insert NAME BEAT OTHER RESULT [FROM TO] */
 enum Status command_insert(struct Host *host, char **words, size_t count)
 {
     enum Status status = STATUS_REFUSED;
@@ -218,6 +223,7 @@ enum Status command_insert(struct Host *host, char **words, size_t count)
     return status;
 }
 
+/* copy NAME RESULT: by a call of the library, so that the copy has a history too. */
 enum Status command_copy(struct Host *host, char **words, size_t count)
 {
     enum Status status = STATUS_REFUSED;
@@ -236,6 +242,7 @@ enum Status command_copy(struct Host *host, char **words, size_t count)
     return status;
 }
 
+/* drop NAME */
 enum Status command_drop(struct Host *host, char **words, size_t count)
 {
     struct Take *take = named(host, words[1]);

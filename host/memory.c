@@ -7,6 +7,7 @@
 #include <stdlib.h>
 #include <string.h>
 
+/* Without memory there is no name or line to go on with. */
 static void *checked(void *block)
 {
     if (block == NULL) {

@@ -34,6 +34,7 @@ static bool fault(struct Walk *walk, uint32_t number, size_t byte, const char *f
     return false;
 }
 
+/* A number of so many bytes, high byte first. */
 static uint32_t big_endian(const uint8_t *bytes, int count)
 {
     uint32_t value = 0;

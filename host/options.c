@@ -17,6 +17,7 @@ struct Line {
     int left;
 };
 
+/* Says what is wrong with a word, and answers false. */
 static bool wrong(const char *form, const char *word)
 {
     fputs("takecut: ", stderr);
@@ -50,6 +51,7 @@ static bool number_option(struct Line *line, const char *equals, uint32_t *numbe
     return true;
 }
 
+/* The option -e. */
 static bool command_option(struct Line *line, struct Options *options)
 {
     const char *command = value_of(line, NULL);
@@ -96,6 +98,7 @@ static uint32_t *number_of(struct Options *options, const char *word, size_t len
     return NULL;
 }
 
+/* A word that is no option: the script. */
 static bool script_word(const char *word, struct Options *options)
 {
     if (word[0] == '-' && word[1] != '\0') {
@@ -108,6 +111,7 @@ static bool script_word(const char *word, struct Options *options)
     return true;
 }
 
+/* The next word, with its value where it has one. */
 static bool word_read(struct Line *line, struct Options *options)
 {
     const char *word = line->words[0];

@@ -53,6 +53,7 @@ static void print_text(FILE *out, const char *text)
     }
 }
 
+/* The place of a tick from the left, rounded down. */
 static uint64_t across(const struct View *view, uint32_t tick)
 {
     return LEFT + (uint64_t)tick * BEAT / view->delta;
@@ -68,11 +69,13 @@ static size_t row(const struct View *view, uint32_t lane)
     return number;
 }
 
+/* The picture's height: a take without rows has the room of one. */
 static uint64_t height(const struct View *view)
 {
     return TOP + (view->lane_count == 0 ? 1 : view->lane_count) * ROW + BELOW;
 }
 
+/* Size, title and description, for readers who do not see it too. */
 static void print_head(FILE *out, const struct View *view, const char *title)
 {
     uint64_t width = LEFT + (uint64_t)view->beats * BEAT + EDGE + BELOW;
@@ -92,6 +95,7 @@ static void print_head(FILE *out, const struct View *view, const char *title)
     fputs("</text>\n", out);
 }
 
+/* A name for each row, and every second row shaded so that the eye keeps to it. */
 static void print_rows(FILE *out, const struct View *view)
 {
     char name[KEY_NAME];
@@ -108,6 +112,7 @@ static void print_rows(FILE *out, const struct View *view)
     }
 }
 
+/* Beat lines with their numbers. */
 static void print_lines(FILE *out, const struct View *view)
 {
     for (uint32_t beat = 0; beat <= view->beats; beat++) {
@@ -135,6 +140,7 @@ static void print_note(FILE *out, const struct View *view, struct Piece note)
             ROW - 2 * GAP);
 }
 
+/* A hidden piece: an outline, since it does not sound. */
 static void print_hidden(FILE *out, const struct View *view, struct Piece piece)
 {
     uint64_t x = across(view, piece.start);

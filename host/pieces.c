@@ -83,6 +83,7 @@ static int row_order(const void *left, const void *right)
     return a > b ? -1 : a < b;
 }
 
+/* The lanes that have a row. */
 static void find_lanes(struct View *view)
 {
     bool shown[ZIKOREWI_LANES] = {false};

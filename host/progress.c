@@ -43,6 +43,7 @@ static void stand(void)
     standing = terminal;
 }
 
+/* How many commands are done. */
 static void print_count(size_t done, size_t total)
 {
     if (total > 0) {

@@ -69,6 +69,7 @@ static enum Status load_bytes(struct Host *host, const char *name, const uint8_t
                                    : complain_number(host, number);
 }
 
+/* load NAME FILE */
 enum Status command_load(struct Host *host, char **words, size_t count)
 {
     uint8_t *bytes;
@@ -124,6 +125,7 @@ static bool lay_ready(struct Host *host, enum Status *status)
     return number == ZIKOREWI_DONE;
 }
 
+/* lay NAME BEATS [LANE START END VELOCITY]... */
 enum Status command_lay(struct Host *host, char **words, size_t count)
 {
     enum Status status = STATUS_REFUSED;

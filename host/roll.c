@@ -72,6 +72,7 @@ static void paint_lane(struct System *system, const struct Piece *pieces, size_t
     }
 }
 
+/* A lane's row: notes over hidden pieces over beat lines. */
 static void paint_row(struct System *system, uint32_t lane)
 {
     const struct View *view = system->view;
@@ -120,6 +121,7 @@ static void print_numbers(FILE *out, const struct System *system, int width)
     fprintf(out, "%" PRIu32 "\n", beat);
 }
 
+/* Prints a painted row behind its name. */
 static void print_row(FILE *out, const struct System *system, uint32_t lane, int width, bool ascii)
 {
     char name[KEY_NAME];
@@ -131,6 +133,7 @@ static void print_row(FILE *out, const struct System *system, uint32_t lane, int
     fputc('\n', out);
 }
 
+/* Prints the rows of a system that show anything. */
 static void print_system(FILE *out, struct System *system, int width, bool ascii)
 {
     const struct View *view = system->view;

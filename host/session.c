@@ -5,6 +5,7 @@
 
 enum { FIRST_SHELVES = 4, FIRST_SHELF_WORDS = 1024 };
 
+/* How many words the session has. */
 static size_t length(const struct Session *session)
 {
     return zikorewi_session_words(session->shelves, session->shelf_words);

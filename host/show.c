@@ -13,6 +13,7 @@
 #include <stdlib.h>
 #include <string.h>
 
+/* A take to be shown. */
 static struct View view_take(const struct Host *host, const struct Take *take)
 {
     const struct Session *session = &host->session;
@@ -28,6 +29,7 @@ static enum Status put_file(struct Host *host, const char *path, const void *byt
     return STATUS_DONE;
 }
 
+/* write NAME FILE */
 enum Status command_write(struct Host *host, char **words, size_t count)
 {
     uint8_t *bytes;
@@ -52,6 +54,7 @@ static void print_sizes(const struct Host *host, const struct Take *take)
            take->name, shelf[0], shelf[1], shelf[2], host->session.delta);
 }
 
+/* takes */
 enum Status command_takes(struct Host *host, char **words, size_t count)
 {
     (void)words;
@@ -62,6 +65,7 @@ enum Status command_takes(struct Host *host, char **words, size_t count)
     return STATUS_DONE;
 }
 
+/* notes NAME */
 enum Status command_notes(struct Host *host, char **words, size_t count)
 {
     char key[KEY_NAME];
@@ -92,6 +96,7 @@ static const char *cell_state(const struct View *view, size_t number)
     return cell_alone(view, view_cell(view, number)) ? "alone" : "hidden";
 }
 
+/* cells NAME */
 enum Status command_cells(struct Host *host, char **words, size_t count)
 {
     char key[KEY_NAME];
@@ -115,6 +120,7 @@ enum Status command_cells(struct Host *host, char **words, size_t count)
     return STATUS_DONE;
 }
 
+/* same FIRST SECOND: all words, those behind the cells too. */
 enum Status command_same(struct Host *host, char **words, size_t count)
 {
     struct Take *first = named(host, words[1]);
@@ -131,6 +137,7 @@ enum Status command_same(struct Host *host, char **words, size_t count)
     return STATUS_DONE;
 }
 
+/* roll NAME */
 enum Status command_roll(struct Host *host, char **words, size_t count)
 {
     struct Take *take = named(host, words[1]);
@@ -147,6 +154,7 @@ enum Status command_roll(struct Host *host, char **words, size_t count)
     return STATUS_DONE;
 }
 
+/* picture NAME FILE: drawn in memory first, so that a failure leaves no half of it. */
 enum Status command_picture(struct Host *host, char **words, size_t count)
 {
     char *text = NULL;

@@ -13,6 +13,7 @@
 
 #define VERSION "0.1"
 
+/* The answer to --help. */
 static void print_help(void)
 {
     fputs("usage: takecut [options] [script]\n"
@@ -107,6 +108,7 @@ static enum Status run_text(struct Host *host, char *text, size_t length)
     return status;
 }
 
+/* A script is read whole, so that progress knows how many lines it has. */
 static enum Status run_script(struct Host *host, const char *path)
 {
     uint8_t *bytes;
@@ -162,6 +164,7 @@ static enum Status run_input(struct Host *host)
     return status;
 }
 
+/* Carries out all commands with a host of its own. */
 static enum Status run(const struct Options *options)
 {
     struct Host host = {.options = options};
@@ -179,6 +182,7 @@ static enum Status run(const struct Options *options)
     return status;
 }
 
+/* A full standard output is an error too, whatever the commands answered. */
 int main(int count, char **words)
 {
     struct Options options;

@@ -5,6 +5,7 @@
 #include <stdlib.h>
 #include <string.h>
 
+/* Carriage returns too: scripts may come from another system. */
 static bool blank(char byte)
 {
     return byte == ' ' || byte == '\t' || byte == '\r' || byte == '\n';

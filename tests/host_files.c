@@ -15,6 +15,7 @@ static unsigned passed, failed;
 static unsigned long seen[16]; /* how often the library answered each number */
 static uint32_t *session;
 
+/* Counts one check. */
 static void check(int holds, const char *what)
 {
     passed += holds != 0;
@@ -75,6 +76,7 @@ static int agree(const uint8_t *file, size_t count)
     return (number == ZIKOREWI_SHELF_ROOM ? 0 : number) == fault.number && placed && event;
 }
 
+/* A file cut off at every byte. */
 static void cut_files(const uint8_t *file, size_t count)
 {
     for (size_t bytes = 0; bytes <= count; bytes++) {
@@ -144,7 +146,8 @@ static size_t random_event(uint8_t *out)
         out[at++] = (uint8_t)data;
     }
     while (data-- > 0) {
-        out[at++] = (uint8_t)(random_below(200) == 0 ? random_below(256) : 60 + random_below(6) * (random_below(4) > 0));
+        uint32_t usual = 60 + random_below(6) * (random_below(4) > 0);
+        out[at++] = (uint8_t)(random_below(200) == 0 ? random_below(256) : usual);
     }
     return at;
 }
@@ -198,6 +201,7 @@ static void random_lists(void)
     check(refused > 10000 && laid > 10000, "note lists of both kinds");
 }
 
+/* No two numbers have the same sentence. */
 static void sentences(void)
 {
     for (uint32_t number = 0; number < 16; number++) {
@@ -211,12 +215,32 @@ static void sentences(void)
     check(strcmp(message_number(HOST_NO_SHELF), message_number(16)) != 0, "shelves");
 }
 
+/* Writes a file for the tests of the commands. */
 static void put(const char *folder, const char *name, const uint8_t *bytes, size_t count)
 {
     char path[4096];
     snprintf(path, sizeof path, "%s/%s", folder, name);
     FILE *file = fopen(path, "wb");
     check(file != NULL && fwrite(bytes, 1, count, file) == count && fclose(file) == 0, path);
+}
+
+/* The end of track at the last tick that is allowed, and one later. */
+static void last_ticks(void)
+{
+    uint8_t file[] = {'M', 'T', 'h', 'd', 0, 0, 0, 6, 0, 0, 0, 1, 0, DELTA,
+                      'M', 'T', 'r', 'k', 0, 0, 0, 6, 0x98, 0x80, 0x00, 0xFF, 0x2F, 0};
+    unsigned long read = seen[0], late = seen[13];
+    check(agree(file, sizeof file) && seen[0] == read + 1, "exactly 4,096 beats are read");
+    file[24] = 1;
+    check(agree(file, sizeof file) && seen[13] == late + 1, "a tick later is refused with 13");
+}
+
+/* All files made from one whole file. */
+static void all_of(const uint8_t *file, size_t count)
+{
+    cut_files(file, count);
+    changed_files(file, count);
+    damaged_files(file, count);
 }
 
 int main(int count, char **words)
@@ -228,13 +252,10 @@ int main(int count, char **words)
     }
     size_t length = plain_file(plain);
     check(agree(RICH, sizeof RICH) && seen[0] == 1, "the file with all kinds of events is read");
-    cut_files(RICH, sizeof RICH);
-    cut_files(plain, length);
-    changed_files(RICH, sizeof RICH);
-    changed_files(plain, length);
-    damaged_files(RICH, sizeof RICH);
-    damaged_files(plain, length);
+    all_of(RICH, sizeof RICH);
+    all_of(plain, length);
     random_files();
+    last_ticks();
     for (int number = 9; number <= 14; number++) {
         check(seen[number] > 100, "every number of a file was met often");
     }

@@ -12,6 +12,7 @@ enum { DELTA = 10, TAKES = 6, MOST_NOTES = 400, MOST_BEATS = 40 };
 
 static unsigned long passed, failed, hidden_seen, bound_seen;
 
+/* A fixed sequence of numbers. */
 static uint32_t random_below(uint32_t bound)
 {
     static uint64_t state = 1181783497276652981u;
@@ -99,11 +100,13 @@ static size_t runs(const struct View *view, struct Piece *notes)
     return count;
 }
 
+/* Whether a note touches or crosses a line. */
 static bool touches(struct Piece note)
 {
     return note.start % DELTA == 0 || note.end % DELTA == 0 || note.start / DELTA != note.end / DELTA;
 }
 
+/* Whether two notes are equal. */
 static bool same(struct Piece a, struct Piece b)
 {
     return a.lane == b.lane && a.start == b.start && a.end == b.end && a.velocity == b.velocity;
@@ -141,6 +144,7 @@ static bool beside(const struct View *view)
     return true;
 }
 
+/* Whether a shelf's take is as the host's rules say. */
 static bool shelf_holds(const struct Session *session, uint32_t shelf)
 {
     struct View view = view_of(session_shelf(session, shelf), DELTA, session->epsilon);

@@ -8,6 +8,7 @@
 #include <time.h>
 #include <unistd.h>
 
+/* Says what is wrong, and answers the status. */
 static int fail(const char *what)
 {
     printf("failed: %s\n", what);
