@@ -18,11 +18,9 @@ struct Line {
 };
 
 /* Says what is wrong with a word, and answers false. */
-static bool wrong(const char *form, const char *word)
+static bool wrong(const char *word, const char *what)
 {
-    fputs("takecut: ", stderr);
-    fprintf(stderr, form, word);
-    fputs("; see takecut --help\n", stderr);
+    fprintf(stderr, "takecut: %s: %s; see takecut --help\n", word, what);
     return false;
 }
 
@@ -46,7 +44,7 @@ static bool number_option(struct Line *line, const char *equals, uint32_t *numbe
     const char *name = line->words[0];
     const char *value = value_of(line, equals);
     if (value == NULL || !words_number(value, number) || *number == 0) {
-        return wrong("%s: wants a whole number above 0", name);
+        return wrong(name, "wants a whole number above 0");
     }
     return true;
 }
@@ -56,7 +54,7 @@ static bool command_option(struct Line *line, struct Options *options)
 {
     const char *command = value_of(line, NULL);
     if (command == NULL) {
-        return wrong("%s: wants a command", line->words[0]);
+        return wrong(line->words[0], "wants a command");
     }
     options->commands =
         memory_grow(options->commands, options->command_count + 1, sizeof *options->commands);
@@ -102,10 +100,10 @@ static uint32_t *number_of(struct Options *options, const char *word, size_t len
 static bool script_word(const char *word, struct Options *options)
 {
     if (word[0] == '-' && word[1] != '\0') {
-        return wrong("%s: there is no such option", word);
+        return wrong(word, "there is no such option");
     }
     if (options->script != NULL) {
-        return wrong("%s: only one script can be given", word);
+        return wrong(word, "only one script can be given");
     }
     options->script = word;
     return true;
@@ -149,7 +147,7 @@ bool options_read(int count, char **words, struct Options *options)
         options->columns = LEAST_COLUMNS;
     }
     if (options->script != NULL && options->command_count > 0) {
-        return wrong("%s: a script and -e cannot be given together", options->script);
+        return wrong(options->script, "a script and -e cannot be given together");
     }
     return true;
 }

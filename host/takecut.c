@@ -72,7 +72,7 @@ static size_t lines_in(const char *text, size_t length)
     return lines;
 }
 
-/* One line of a text without its line feed; answers where the next begins. */
+/* Where a line ends: at its line feed or at the text's end. */
 static char *line_end(char *line, char *end)
 {
     char *feed = memchr(line, '\n', (size_t)(end - line));
