@@ -25,9 +25,9 @@ check() {
     fi
 }
 
-# Runs the editor; leaves its status, and what it printed in out and err.
+# Runs the editor, not for ever; leaves its status, and what it printed in out and err.
 run() {
-    "$takecut" "$@" >"$work/out" 2>"$work/err" </dev/null
+    timeout 120 "$takecut" "$@" >"$work/out" 2>"$work/err" </dev/null
     status=$?
 }
 
@@ -53,8 +53,10 @@ printed() {
 }
 
 strict='-std=c11 -Wall -Wextra -Werror -g -O1 -fsanitize=address,undefined -fno-sanitize-recover=all'
+rm -rf $checked build/plain
 make --no-print-directory programs BUILD=$checked CFLAGS="$strict" >"$work/make" 2>&1
-check "the editor and the demonstration compile ($(tail -n 3 "$work/make"))" [ -x $checked/takecut-demo ]
+status=$?
+check "the editor and the demonstration compile ($(tail -n 3 "$work/make"))" [ "$status" -eq 0 ]
 
 # A test program in C: its sources, and the folder for the files that it makes. It counts for itself.
 program() {

@@ -40,6 +40,7 @@ carried_out --ticks 10 -e "lay $name 1" -e "copy $name b" -e "same b '$name'"
 
 # Without memory for a larger session: status 3, in words. The sanitizers need more room, so this is the plain program.
 make -C "$root" --no-print-directory programs BUILD=build/plain >make.log 2>&1
+check 'the plain program compiles' [ $? -eq 0 ]
 awk 'BEGIN { printf "lay a 10"
     for (lane = 0; lane < 2000; lane++) for (i = 0; i < 120; i++) printf " %d %d %d 1", lane, 2 * i + 1, 2 * i + 2
     print "\ncopy a b\ncopy a c\ncopy a d\ncopy a e\ncopy a f\ncopy a g\ncopy a h\ncopy a i" }' >script
