@@ -69,16 +69,27 @@ ends 3 'command 1: load a none.mid: the file cannot be read: No such file or dir
 ends 3 'command 1: load a .: the file cannot be read: Is a directory' -e 'load a .'
 ends 3 'command 2: write a none/x.mid: the file cannot be written: No such file or directory' \
     -e 'load a plain.mid' -e 'write a none/x.mid'
-ends 3 'command 2: write a /dev/full: the file cannot be written: No space left on device' \
-    -e 'load a plain.mid' -e 'write a /dev/full'
-ends 3 'command 2: picture a /dev/full: the file cannot be written: No space left on device' \
-    -e 'load a plain.mid' -e 'picture a /dev/full'
-check '/dev/full is still a device' [ -c /dev/full ]
 ends 3 'command 2: write a .: the file cannot be written: Is a directory' -e 'load a plain.mid' -e 'write a .'
 ends 3 'none: the script cannot be read: No such file or directory' none
 "$takecut" -e 'load a plain.mid' -e 'roll a' >/dev/full 2>err
 check 'standard output that is full: status 3' [ $? -eq 3 ]
 check 'standard output that is full: a message' grep -q '^takecut: standard output cannot be written' err
+
+# A pipe is written directly and stays a pipe; a reader that leaves is an error. No device of the machine is named as a
+# file to be written here, since a wrong program could replace it.
+awk 'BEGIN { printf "lay a 4000"; for (i = 0; i < 20000; i++) printf " 60 %d %d 9", 2 * i, 2 * i + 1; print "" }' >long
+{ cat long; echo 'write a long.mid'; echo 'write a pipe'; } >script
+mkfifo pipe
+timeout 60 cat pipe >piped &
+carried_out --ticks 10 script
+wait $!
+check 'the pipe has the file' cmp piped long.mid
+check 'the pipe is still one' [ -p pipe ]
+timeout 60 head -c 1 pipe >piped &
+(trap '' PIPE && timeout 60 "$takecut" --ticks 10 script 2>err)
+check 'a reader that leaves: status 3' [ $? -eq 3 ]
+wait $!
+check "a reader that leaves: a message ($(cat err))" grep -qx 'takecut: line 3: write a pipe: the file cannot be written: Broken pipe' err
 
 # A write that fails leaves the old file and no other; one that is carried out keeps the file's mode and a link.
 mkdir kept && echo old >kept/a.mid && ln -s a.mid kept/link.mid && chmod 640 kept/a.mid
