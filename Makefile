@@ -8,6 +8,7 @@ CARGO = cargo --offline
 PREFIX ?= /usr/local
 VERSION = 0.1
 BUILD = build
+SOURCES = $(shell find crates crates.txt -type f)
 ARCHIVES = target/staticlib/libbeat.a target/staticlib/libfile.a
 
 CFLAGS ?= -O2
@@ -21,12 +22,14 @@ all: library
 	@$(MAKE) --no-print-directory programs
 
 library: prove
-	rt staticlib beat
-	rt staticlib file
 	@$(MAKE) --no-print-directory archive
 
-# One library of the two proved archives.
-archive:
+# An archive is proved and built again only where a crate has changed since.
+target/staticlib/lib%.a: $(SOURCES)
+	rt staticlib $*
+
+# One library of the two archives.
+archive: $(ARCHIVES)
 	@mkdir -p $(BUILD)
 	rm -f $(BUILD)/libzikorewi.a
 	@{ echo 'create $(BUILD)/libzikorewi.a'; for a in $(ARCHIVES); do echo "addlib $$a"; done; echo 'save'; echo 'end'; } | ar -M

@@ -71,3 +71,7 @@ sed -i '$d' script
 echo 'cut t 3 4 t' >>script
 echo 'same t a' >>script
 ends 1 'line 1806: same t a: the takes differ' --ticks 96 script
+
+# Without --shortest an eighth of the beat is kept: 10 ticks of 80, not 9.
+carried_out --ticks 80 -e 'lay a 2 60 70 90 100 61 71 89 100' -e 'split a 1 l r' -e 'notes l'
+check 'ten ticks are kept, nine are hidden' [ "$(awk 'NR > 2 { print $3, $5, $6 }' out)" = '60 70 80' ]
