@@ -80,6 +80,12 @@ check 'progress: the last count' [ "$(tail -n 1 err)" = '300 of 300 commands' ]
 run --ticks 10 --progress -e 'lay a 1' -e 'drop b' -e takes
 check 'progress: to the refusal' [ "$(tail -n 1 err)" = '1 of 3 commands' ]
 
+slowly() { echo 'lay a 1' && sleep 0.6 && echo 'lay b 1'; }
+slowly | "$takecut" --ticks 10 --progress 2>err
+check 'progress: asked for' [ "$(cat err)" = '2 commands' ]
+slowly | "$takecut" --ticks 10 2>err
+check 'progress: not asked for' [ ! -s err ]
+
 # On a terminal: a prompt, and a refusal does not end it.
 cc $strict "$root/tests/host_terminal.c" -o terminal && ./terminal "$takecut" >out
 status=$?
