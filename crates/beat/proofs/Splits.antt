@@ -1,16 +1,14 @@
 -- Split: the number by the way that the questions go, and both halves' words. Assumes nothing.
-use mathlib.Core.Path.{_≡_, refl, sym, ap, _∙_}
+use mathlib.Core.Path.{_≡_, refl, sym, _∙_}
 use mathlib.Core.Bool.{Bool, true, false, cond, not, _&&_, and-true, true≢false}
 use mathlib.Core.List.{List, [], _∷_}
 use Prim.Native.Nat.{ℕ, _+_, _-_, _≤_, _<_}
-use native.Mathlib.Nat.{add-zero}
 use native.Mathlib.Omega.{arith}
 use borrow.Author.Tests.{leb-true, ltb-true, le-leb, lt-leb, le-ltb, lt-ltb, eq-eqb, ne-eqb, not-true, not-false}
 use lib.Dec.{ltb, eqb}
-use lib.ListN.{length, getD, take, drop}
-use lib.Seq.{getD-drop, getD-take}
+use lib.ListN.{length, getD}
 use Rattle.words.specs.Splice.{splice}
-use Rattle.model.specs.Limits.{maxBeats, maxDelta, maxShelves, maxWords, minWords}
+use Rattle.model.specs.Limits.{maxBeats, maxDelta, maxShelves, maxWords}
 use Rattle.model.specs.Takes.{takeIn, wordsOf, splitLeft, splitRight}
 use Rattle.model.specs.Session.{headerOf, shelf, shelfAt, putShelf}
 use Rattle.model.specs.Soundness.{soundShelf}

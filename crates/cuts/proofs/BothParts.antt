@@ -1,11 +1,11 @@
 -- What both halves have of a note and of a cell, by the way that the code goes. Assumes nothing.
-use mathlib.Core.Path.{_≡_, refl, sym, ap, _∙_}
+use mathlib.Core.Path.{_≡_, sym, ap, _∙_}
 use mathlib.Core.List.{List, [], _∷_}
 use Prim.Native.Nat.{ℕ, _+_, _-_, _*_, _≤_, _<_}
 use native.Mathlib.Omega.{arith}
 use borrow.Author.Tests.{le-leb, lt-leb, le-ltb, lt-ltb}
 use lib.ListN.{length}
-use Rattle.words.specs.Apart.{Apart, apart-swap, apart-within}
+use Rattle.words.specs.Apart.{Apart}
 use Rattle.words.specs.Parts.{Same, splice-same}
 use Rattle.words.specs.Splice.{splice, length-splice}
 use Rattle.model.specs.Lists.{gather}
@@ -20,7 +20,7 @@ use Rattle.session.proofs.Frames.{length-notes}
 use Rattle.cuts.specs.declared.halves.Half.{Half}
 use Rattle.cuts.specs.declared.halves.Ends.{Ends}
 use Rattle.cuts.specs.declared.halves.Cursors.{Cursors}
-use Rattle.cuts.specs.Halving.{passed, acrossParts, notePart, Noted}
+use Rattle.cuts.specs.Halving.{passed, acrossParts, Noted}
 use Rattle.cuts.specs.BothHalves.{placesOf, partFrom, leftCell, rightCell, BothPut, PartsAsks, PartsPut}
 use Rattle.cuts.proofs.Parts.{none-before, none-behind, some-across, part-before-left, part-before-right, part-behind-left, part-behind-right, part-across}
 use Rattle.cuts.proofs.Passes.{cells-agree}
@@ -47,8 +47,8 @@ module _ {s : List ℕ} {h : Header} {a b : Half} {n : Note} {end : ℕ} {at : C
 
   -- it ends on the line or before it
   module _ (i : n .end ≤ a .line) where
-    i' : n .end ≤ b .line
-    i' = rw (q .sides .line-is) i
+    right-ends : n .end ≤ b .line
+    right-ends = rw (q .sides .line-is) i
 
     before-left : partFrom h a n closing ≡ n ∷ []
     unfolding partFrom
@@ -56,7 +56,7 @@ module _ {s : List ℕ} {h : Header} {a b : Half} {n : Note} {end : ℕ} {at : C
 
     before-right : partFrom h b n opening ≡ []
     unfolding partFrom
-    before-right = part-before-right h b n (passed b n opening) i' (q .sides .right-is)
+    before-right = part-before-right h b n (passed b n opening) right-ends (q .sides .right-is)
 
     pub before-room : at .left + 4 ≤ length s
     before-room = rw before-left at (q .left-room)
@@ -66,19 +66,19 @@ module _ {s : List ℕ} {h : Header} {a b : Half} {n : Note} {end : ℕ} {at : C
     before-put e = record {
       closings-are = none-before a n closing i;
       closings-few = omega arith;
-      openings-are = none-before b n opening i';
+      openings-are = none-before b n opening right-ends;
       openings-few = omega arith;
       put = left-put s (placesOf at) (noteWords n) (ap (gather noteWords) before-left) (ap (gather noteWords) before-right) e;
     }
 
   module _ (i : a .line < n .end) where
-    i'' : b .line < n .end
-    i'' = rw (q .sides .line-is) i
+    right-over : b .line < n .end
+    right-over = rw (q .sides .line-is) i
 
     -- it starts on the line or behind it
     module _ (j : a .line ≤ n .start) where
-      j' : b .line ≤ n .start
-      j' = rw (q .sides .line-is) j
+      right-starts : b .line ≤ n .start
+      right-starts = rw (q .sides .line-is) j
 
       behind-left : partFrom h a n closing ≡ []
       unfolding partFrom
@@ -86,7 +86,7 @@ module _ {s : List ℕ} {h : Header} {a b : Half} {n : Note} {end : ℕ} {at : C
 
       behind-right : partFrom h b n opening ≡ noteBack (a .line) n ∷ []
       unfolding partFrom
-      behind-right = part-behind-right h b n (passed b n opening) i'' j' (q .sides .right-is) ∙ ap (λ (x : ℕ). noteBack x n ∷ []) (q .sides .line-is)
+      behind-right = part-behind-right h b n (passed b n opening) right-over right-starts (q .sides .right-is) ∙ ap (λ (x : ℕ). noteBack x n ∷ []) (q .sides .line-is)
 
       pub behind-room : at .right + 4 ≤ length s
       behind-room = rw behind-right at (q .right-room)
@@ -96,21 +96,15 @@ module _ {s : List ℕ} {h : Header} {a b : Half} {n : Note} {end : ℕ} {at : C
       behind-put e = record {
         closings-are = none-behind a n closing i j;
         closings-few = omega arith;
-        openings-are = none-behind b n opening i'' j';
+        openings-are = none-behind b n opening right-over right-starts;
         openings-few = omega arith;
         put = right-put s (placesOf at) (noteWords (noteBack (a .line) n)) (ap (gather noteWords) behind-left) (ap (gather noteWords) behind-right) e;
       }
 
     -- it crosses the line
     module _ (j : n .start < a .line) where
-      j'' : n .start < b .line
-      j'' = rw (q .sides .line-is) j
-
-      pub closings-asks : (6 * at .closings ≤ end) × (end ≤ length s)
-      closings-asks = (q .closings-in, q .inside)
-
-      pub openings-asks : (6 * at .openings ≤ end) × (end ≤ length s)
-      openings-asks = (q .openings-in, q .inside)
+      right-under : n .start < b .line
+      right-under = rw (q .sides .line-is) j
 
       module _ {k : ℕ} (e : (lastCells s end k ≡ skip (n .lane) (a .edge) closing) × (k ≤ at .closings)) where
         closed : lastCells s end k ≡ passed a n closing
@@ -125,11 +119,11 @@ module _ {s : List ℕ} {h : Header} {a b : Half} {n : Note} {end : ℕ} {at : C
 
         module _ {o : ℕ} (f : (lastCells s end o ≡ skip (n .lane) (b .edge) opening) × (o ≤ at .openings)) where
           opened : lastCells s end o ≡ passed b n opening
-          opened = f .0 ∙ some-across b n opening i'' j''
+          opened = f .0 ∙ some-across b n opening right-over right-under
 
           right-part : partFrom h b n opening ≡ acrossParts h b n (lastCells s end o)
           unfolding partFrom
-          right-part = part-across h b n (passed b n opening) i'' j'' ∙ ap (acrossParts h b n) (sym opened)
+          right-part = part-across h b n (passed b n opening) right-over right-under ∙ ap (acrossParts h b n) (sym opened)
 
           module _ {s₁ : List ℕ} {l : ℕ} (m : Noted s (at .left) (acrossParts h a n (lastCells s end k)) s₁ l) where
             lefts : List Note

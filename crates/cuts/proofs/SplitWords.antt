@@ -1,5 +1,5 @@
 -- Both halves of a sound shelf's take, written into two other shelves. Assumes nothing.
-use mathlib.Core.Path.{_≡_, refl, sym, ap, _∙_}
+use mathlib.Core.Path.{_≡_, refl, ap, _∙_}
 use mathlib.Core.List.{List, [], _∷_}
 use Prim.Native.Nat.{ℕ, _+_, _-_, _*_, _/_, _≤_}
 use native.Mathlib.Omega.{arith}
@@ -49,11 +49,11 @@ module _ {s : List ℕ} {h : Header} {a b : Half} {i j k : ℕ} (q : BothAsks s 
   abbrev t : Take
   t = takeAt h s i
 
-  abbrev lt : Take
-  lt = halfOf (h .delta) a t
+  abbrev lefts : Take
+  lefts = halfOf (h .delta) a t
 
-  abbrev rt : Take
-  rt = halfOf (h .delta) b t
+  abbrev rights : Take
+  rights = halfOf (h .delta) b t
 
   module _ {from : Contents} (r : Read la from) {l : ℕ} (left-at : l ≡ shelfAt h j) {m : ℕ} (right-at : m ≡ shelfAt h k) where
     right-read : Read ra from
@@ -100,40 +100,40 @@ module _ {s : List ℕ} {h : Header} {a b : Half} {i j k : ℕ} (q : BothAsks s 
     module _ {s₁ : List ℕ} {middle : Ends}
         (noted : BothPut s (record { left = l + 3; right = m + 3 }) (gather noteWords (notesLeft h a s from (from .notes) (from .cells)))
         (gather noteWords (notesLeft h b s from (from .notes) (from .cells))) s₁ middle) where
-      notes-put : BothPut s (record { left = l + 3; right = m + 3 }) (gather noteWords (notesOf h lt)) (gather noteWords (notesOf h rt)) s₁ middle
+      notes-put : BothPut s (record { left = l + 3; right = m + 3 }) (gather noteWords (notesOf h lefts)) (gather noteWords (notesOf h rights)) s₁ middle
       notes-put = rw (notes-left la r, notes-left ra right-read) at noted
 
       -- the left half's notes alone
       s' : List ℕ
-      s' = splice s (l + 3) (gather noteWords (notesOf h lt))
+      s' = splice s (l + 3) (gather noteWords (notesOf h lefts))
 
-      left-noted : Noted s (l + 3) (notesOf h lt) s' (middle .left)
+      left-noted : Noted s (l + 3) (notesOf h lefts) s' (middle .left)
       unfolding s'
-      left-noted = record { words = refl; behind = notes-put .left-behind ∙ omega (arith, length-notes (notesOf h lt)) }
+      left-noted = record { words = refl; behind = notes-put .left-behind ∙ omega (arith, length-notes (notesOf h lefts)) }
 
-      right-noted : Noted s' (m + 3) (notesOf h rt) s₁ (middle .right)
+      right-noted : Noted s' (m + 3) (notesOf h rights) s₁ (middle .right)
       unfolding s'
-      right-noted = record { words = notes-put .words; behind = notes-put .right-behind ∙ omega (arith, length-notes (notesOf h rt)) }
+      right-noted = record { words = notes-put .words; behind = notes-put .right-behind ∙ omega (arith, length-notes (notesOf h rights)) }
 
       long' : length s' ≡ length s
       unfolding s'
-      long' = length-splice s (l + 3) (gather noteWords (notesOf h lt))
+      long' = length-splice s (l + 3) (gather noteWords (notesOf h lefts))
 
       long₁ : length s₁ ≡ length s
-      long₁ = ap length (right-noted .words) ∙ length-splice s' (m + 3) (gather noteWords (notesOf h rt)) ∙ long'
+      long₁ = ap length (right-noted .words) ∙ length-splice s' (m + 3) (gather noteWords (notesOf h rights)) ∙ long'
 
       -- the cells are as they were
       cells-now : lastCells s₁ (from .end) (from .cells) ≡ t .cells
       cells-now =
-          cells-still (notesOf h rt) (placed ra right-read s' long' (m + 3) _ (omega (arith, right-at)) (omega (arith, right-at, room ra))) right-noted
-          ∙ cells-still (notesOf h lt) (placed la r s refl (l + 3) _ (omega (arith, left-at)) (omega (arith, left-at, room la))) left-noted
+          cells-still (notesOf h rights) (placed ra right-read s' long' (m + 3) _ (omega (arith, right-at)) (omega (arith, right-at, room ra))) right-noted
+          ∙ cells-still (notesOf h lefts) (placed la r s refl (l + 3) _ (omega (arith, left-at)) (omega (arith, left-at, room la))) left-noted
           ∙ r .cells-are
 
-      left-cells-now : leftCells (a .beat) s₁ from (from .cells) ≡ lt .cells
+      left-cells-now : leftCells (a .beat) s₁ from (from .cells) ≡ lefts .cells
       unfolding leftCells
       left-cells-now = rw cells-now (left-cells (h .delta) a t (q .sides .left-is))
 
-      right-cells-now : rightCells (a .beat) s₁ from (from .cells) ≡ rt .cells
+      right-cells-now : rightCells (a .beat) s₁ from (from .cells) ≡ rights .cells
       unfolding rightCells
       right-cells-now = rw (cells-now, ← q .sides .beat-is) (right-cells (h .delta) b t (q .sides .right-is))
 
@@ -146,19 +146,19 @@ module _ {s : List ℕ} {h : Header} {a b : Half} {i j k : ℕ} (q : BothAsks s 
 
       module _ {s₂ : List ℕ} {end : Ends}
           (made : BothPut s₁ middle (gather cellWords (leftCells (a .beat) s₁ from (from .cells))) (gather cellWords (rightCells (a .beat) s₁ from (from .cells))) s₂ end) where
-        cells-put : BothPut s₁ middle (gather cellWords (lt .cells)) (gather cellWords (rt .cells)) s₂ end
+        cells-put : BothPut s₁ middle (gather cellWords (lefts .cells)) (gather cellWords (rights .cells)) s₂ end
         cells-put = rw (left-cells-now, right-cells-now) at made
 
-        left-end : end .left ≡ middle .left + 6 * length (lt .cells)
-        left-end = cells-put .left-behind ∙ omega (arith, length-cells (lt .cells))
+        left-end : end .left ≡ middle .left + 6 * length (lefts .cells)
+        left-end = cells-put .left-behind ∙ omega (arith, length-cells (lefts .cells))
 
-        right-end : end .right ≡ middle .right + 6 * length (rt .cells)
-        right-end = cells-put .right-behind ∙ omega (arith, length-cells (rt .cells))
+        right-end : end .right ≡ middle .right + 6 * length (rights .cells)
+        right-end = cells-put .right-behind ∙ omega (arith, length-cells (rights .cells))
 
         long₂ : length s₂ ≡ length s
         long₂ =
-            ap length (cells-put .words) ∙ length-splice (splice s₁ (middle .left) (gather cellWords (lt .cells))) (middle .right) (gather cellWords (rt .cells))
-            ∙ length-splice s₁ (middle .left) (gather cellWords (lt .cells)) ∙ long₁
+            ap length (cells-put .words) ∙ length-splice (splice s₁ (middle .left) (gather cellWords (lefts .cells))) (middle .right) (gather cellWords (rights .cells))
+            ∙ length-splice s₁ (middle .left) (gather cellWords (lefts .cells)) ∙ long₁
 
         pub left-counts : CountsAsks s₂ l (h .words) (middle .left) (end .left)
         left-counts = record {
@@ -171,9 +171,9 @@ module _ {s : List ℕ} {h : Header} {a b : Half} {i j k : ℕ} (q : BothAsks s 
 
         -- the left half alone, and the right half's notes and cells
         y : List ℕ
-        y = splice s' (middle .left) (gather cellWords (lt .cells))
+        y = splice s' (middle .left) (gather cellWords (lefts .cells))
 
-        left-made : Made s' (middle .left) (lt .cells) y (end .left)
+        left-made : Made s' (middle .left) (lefts .cells) y (end .left)
         unfolding y
         left-made = record { words = refl; behind = left-end }
 
@@ -181,30 +181,30 @@ module _ {s : List ℕ} {h : Header} {a b : Half} {i j k : ℕ} (q : BothAsks s 
         right-behind-left {d} ws low high = apart-swap (apart-within d (length ws) targets-apart low high)
 
         abbrev ns : List ℕ
-        ns = gather noteWords (notesOf h rt)
+        ns = gather noteWords (notesOf h rights)
 
         abbrev cs : List ℕ
-        cs = gather cellWords (rt .cells)
+        cs = gather cellWords (rights .cells)
 
         notes-free : Apart (m + 3) (length ns) l (h .words)
-        notes-free = right-behind-left ns (omega arith) (omega (arith, length-notes (notesOf h rt), room ra))
+        notes-free = right-behind-left ns (omega arith) (omega (arith, length-notes (notesOf h rights), room ra))
 
         cells-free : Apart (middle .right) (length cs) l (h .words)
-        cells-free = right-behind-left cs (omega (arith, right-noted .behind)) (omega (arith, right-noted .behind, length-cells (rt .cells), room ra))
+        cells-free = right-behind-left cs (omega (arith, right-noted .behind)) (omega (arith, right-noted .behind, length-cells (rights .cells), room ra))
 
         by-turns : s₂ ≡ splice (splice y (m + 3) ns) (middle .right) cs
         unfolding y
         by-turns =
-            let ls = gather cellWords (lt .cells) in
+            let ls = gather cellWords (lefts .cells) in
             let free : Apart (m + 3) (length ns) (middle .left) (length ls) =
-            apart-within (middle .left) (length ls) notes-free (omega (arith, left-noted .behind)) (omega (arith, left-noted .behind, length-cells (lt .cells), room la)) in
+            apart-within (middle .left) (length ls) notes-free (omega (arith, left-noted .behind)) (omega (arith, left-noted .behind, length-cells (lefts .cells), room la)) in
             cells-put .words
             ∙ ap (λ (x : List ℕ). splice (splice x (middle .left) ls) (middle .right) cs) (right-noted .words)
             ∙ ap (λ (x : List ℕ). splice x (middle .right) cs) (splice-comm s' (m + 3) ns (middle .left) ls free)
 
         module _ {s₃ : List ℕ} (first : s₃ ≡ framed s₂ l (h .words) (a .beats) ((middle .left - (l + 3)) / 4) ((end .left - middle .left) / 6)) where
           left-shelf : List ℕ
-          left-shelf = splice s (shelfAt h j) (wordsOf h lt)
+          left-shelf = splice s (shelfAt h j) (wordsOf h lefts)
 
           -- the left shelf is done
           left-done : s₃ ≡ splice (splice left-shelf (m + 3) ns) (middle .right) cs
@@ -218,11 +218,11 @@ module _ {s : List ℕ} {h : Header} {a b : Half} {i j k : ℕ} (q : BothAsks s 
               ∙ framed-apart (splice y (m + 3) ns) (middle .right) cs l (h .words) (a .beats) N C used cells-free
               ∙ ap (λ (x : List ℕ). splice x (middle .right) cs) (framed-apart y (m + 3) ns l (h .words) (a .beats) N C used notes-free)
               ∙ ap (λ (x : List ℕ). splice (splice x (m + 3) ns) (middle .right) cs)
-              (take-put h lt (range la .small) (half-fits la) l left-inside left-noted left-made (la .beats-are) refl ∙ ap (λ (x : ℕ). splice s x (wordsOf h lt)) left-at)
+              (take-put h lefts (range la .small) (half-fits la) l left-inside left-noted left-made (la .beats-are) refl ∙ ap (λ (x : ℕ). splice s x (wordsOf h lefts)) left-at)
 
           long₃ : length left-shelf ≡ length s
           unfolding left-shelf
-          long₃ = length-splice s (shelfAt h j) (wordsOf h lt)
+          long₃ = length-splice s (shelfAt h j) (wordsOf h lefts)
 
           pub right-counts : CountsAsks s₃ m (h .words) (middle .right) (end .right)
           right-counts =
@@ -237,11 +237,11 @@ module _ {s : List ℕ} {h : Header} {a b : Half} {i j k : ℕ} (q : BothAsks s 
               }
 
           pub both-put : {s₄ : List ℕ} → s₄ ≡ framed s₃ m (h .words) (b .beats) ((middle .right - (m + 3)) / 4) ((end .right - middle .right) / 6)
-              → s₄ ≡ splice (splice s (shelfAt h j) (wordsOf h lt)) (shelfAt h k) (wordsOf h rt)
+              → s₄ ≡ splice (splice s (shelfAt h j) (wordsOf h lefts)) (shelfAt h k) (wordsOf h rights)
           unfolding left-shelf
           both-put e =
-              let noted-last : Noted left-shelf (m + 3) (notesOf h rt) (splice left-shelf (m + 3) ns) (middle .right) = record { words = refl; behind = right-noted .behind } in
-              let made-last : Made (splice left-shelf (m + 3) ns) (middle .right) (rt .cells) s₃ (end .right) = record { words = left-done; behind = right-end } in
+              let noted-last : Noted left-shelf (m + 3) (notesOf h rights) (splice left-shelf (m + 3) ns) (middle .right) = record { words = refl; behind = right-noted .behind } in
+              let made-last : Made (splice left-shelf (m + 3) ns) (middle .right) (rights .cells) s₃ (end .right) = record { words = left-done; behind = right-end } in
               let inside : m + h .words ≤ length left-shelf = omega (arith, right-inside, long₃) in
-              take-put h rt (range ra .small) (half-fits ra) m inside noted-last made-last (ra .beats-are) e
-              ∙ ap (λ (x : ℕ). splice left-shelf x (wordsOf h rt)) right-at
+              take-put h rights (range ra .small) (half-fits ra) m inside noted-last made-last (ra .beats-are) e
+              ∙ ap (λ (x : ℕ). splice left-shelf x (wordsOf h rights)) right-at

@@ -5,7 +5,7 @@ ghost use lib.ListN.{length};
 ghost use Rattle.words.specs.Splice.{splice};
 ghost use Rattle.model.specs.Limits.{maxBeats, maxDelta};
 ghost use Rattle.model.specs.Lists.{gather};
-ghost use Rattle.model.specs.Takes.{noteWords, cellWords, wordsOf};
+ghost use Rattle.model.specs.Takes.{noteWords, cellWords, cellTo, wordsOf};
 ghost use Rattle.model.specs.Session.{shelfAt};
 ghost use Rattle.model.specs.Questions.{takeAt};
 ghost use Rattle.laws.specs.Cutting.{firstCell};
@@ -276,37 +276,27 @@ fn put_notes(s: &mut [u32], h: Header, before: Half, behind: Half, from: Content
 
 // ---- cells
 
+// A cell, put into a beat, written from place `to` on.
+fn put_cell_in(s: &mut [u32], to: usize, beat: u32, c: Cell)
+    requires { ⌜ to + 6 ≤ length (now s) ⌝ }
+    ensures { λ _. ⌜ now (s .exit) ≡ splice (now (s .entry)) to (cellWords (cellTo beat c)) ⌝ }
+{
+    words::put_six(s, to, c.lane, beat, c.side, c.before, c.after, c.velocity);
+}
+
 // A cell, written to its half, counted from the half's first beat. Returns the places behind each half's cells.
 fn put_cell(s: &mut [u32], beat: u32, c: Cell, at: Ends) -> Ends
     requires { ⌜ (at .left + 6 * length (leftCell beat c) ≤ length (now s)) × (at .right + 6 * length (rightCell beat c) ≤ length (now s)) ⌝ }
     ensures { λ r. ⌜ BothPut (now (s .entry)) at (gather cellWords (leftCell beat c)) (gather cellWords (rightCell beat c)) (now (s .exit)) r ⌝ }
 {
     if c.beat < beat {
-        words::put_six(
-            s,
-            at.left,
-            c.lane,
-            c.beat,
-            c.side,
-            c.before,
-            c.after,
-            c.velocity,
-        );
+        put_cell_in(s, at.left, c.beat, c);
         return Ends {
             left: at.left + 6,
             right: at.right,
         };
     }
-    words::put_six(
-        s,
-        at.right,
-        c.lane,
-        c.beat - beat,
-        c.side,
-        c.before,
-        c.after,
-        c.velocity,
-    );
+    put_cell_in(s, at.right, c.beat - beat, c);
     Ends {
         left: at.left,
         right: at.right + 6,
