@@ -231,7 +231,7 @@ module _ {s : List ℕ} {h : Header} {i k l r : ℕ} (a : SplitAsks s h i k l r)
           })
 
       sides : Sides v u
-      sides = rw (is, also) (record { left-is = refl; right-is = refl; beat-is = refl; line-is = refl })
+      sides = rw (is, also) (record { left-is = refl; right-is = refl; beat-is = refl; line-is = refl; edges = omega arith })
 
       pub both-asks : BothAsks s h v u i l r
       both-asks = record { sides = sides; left-asks = first-asks; right-asks = second-asks; differ = granted .left-right }

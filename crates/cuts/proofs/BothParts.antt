@@ -1,9 +1,11 @@
 -- What both halves have of a note and of a cell, by the way that the code goes. Assumes nothing.
 use mathlib.Core.Path.{_≡_, sym, ap, _∙_}
+use mathlib.Core.Bool.{Bool, true, false, cond}
 use mathlib.Core.List.{List, [], _∷_}
 use Prim.Native.Nat.{ℕ, _+_, _-_, _*_, _≤_, _<_}
 use native.Mathlib.Omega.{arith}
 use borrow.Author.Tests.{le-leb, lt-leb, le-ltb, lt-ltb}
+use lib.Dec.{ltb}
 use lib.ListN.{length}
 use Rattle.words.specs.Apart.{Apart}
 use Rattle.words.specs.Parts.{Same, splice-same}
@@ -24,6 +26,7 @@ use Rattle.cuts.specs.Halving.{passed, acrossParts, Noted}
 use Rattle.cuts.specs.BothHalves.{placesOf, partFrom, leftCell, rightCell, BothPut, PartsAsks, PartsPut}
 use Rattle.cuts.proofs.Parts.{none-before, none-behind, some-across, part-before-left, part-before-right, part-behind-left, part-behind-right, part-across}
 use Rattle.cuts.proofs.Passes.{cells-agree}
+use Rattle.cuts.proofs.Skips.{goes-on}
 
 -- ---- words for one half only
 
@@ -68,6 +71,7 @@ module _ {s : List ℕ} {h : Header} {a b : Half} {n : Note} {end : ℕ} {at : C
       closings-few = omega arith;
       openings-are = none-before b n opening right-ends;
       openings-few = omega arith;
+      order = q .order;
       put = left-put s (placesOf at) (noteWords n) (ap (gather noteWords) before-left) (ap (gather noteWords) before-right) e;
     }
 
@@ -98,6 +102,7 @@ module _ {s : List ℕ} {h : Header} {a b : Half} {n : Note} {end : ℕ} {at : C
         closings-few = omega arith;
         openings-are = none-behind b n opening right-over right-starts;
         openings-few = omega arith;
+        order = q .order;
         put = right-put s (placesOf at) (noteWords (noteBack (a .line) n)) (ap (gather noteWords) behind-left) (ap (gather noteWords) behind-right) e;
       }
 
@@ -117,7 +122,20 @@ module _ {s : List ℕ} {h : Header} {a b : Half} {n : Note} {end : ℕ} {at : C
         pub left-asks : (at .left + 4 * length (acrossParts h a n (lastCells s end k)) ≤ length s) × (6 * k ≤ end) × (end ≤ length s) × (a .line ≤ n .end)
         left-asks = (rw left-part at (q .left-room), omega (arith, q .closings-in, e .1), q .inside, omega arith)
 
-        module _ {o : ℕ} (f : (lastCells s end o ≡ skip (n .lane) (b .edge) opening) × (o ≤ at .openings)) where
+        -- the search that goes on from the closing cell, or from the opening cell before
+        module _ {x : ℕ} (is : x ≡ cond (ltb k (at .openings)) k (at .openings)) where
+          pub on-asks : (6 * x ≤ end) × (end ≤ length s)
+          on-asks = (go (ltb k (at .openings)) is, q .inside)
+            where
+              go : (t : Bool) → x ≡ cond t k (at .openings) → 6 * x ≤ end
+              go true g = omega (arith, q .closings-in, e .1)
+              go false g = omega (arith, q .closings-in, q .order)
+
+          pub found-on : {o : ℕ} → (lastCells s end o ≡ skip (n .lane) (b .edge) (lastCells s end x)) × (o ≤ x)
+              → (lastCells s end o ≡ skip (n .lane) (b .edge) opening) × (o ≤ at .openings) × (o ≤ k)
+          found-on g = goes-on s end (n .lane) (a .edge) (b .edge) (at .closings) k (at .openings) (q .sides .edges) (q .closings-in) (q .order) (e .0) is g
+
+        module _ {o : ℕ} (f : (lastCells s end o ≡ skip (n .lane) (b .edge) opening) × (o ≤ at .openings) × (o ≤ k)) where
           opened : lastCells s end o ≡ passed b n opening
           opened = f .0 ∙ some-across b n opening right-over right-under
 
@@ -140,13 +158,13 @@ module _ {s : List ℕ} {h : Header} {a b : Half} {n : Note} {end : ℕ} {at : C
                 let apart : Apart (end - 6 * at .openings) (6 * at .openings) (at .left) (4 * length lefts) = rw left-part at (q .apart) in
                 let same : Same s₁ s (end - 6 * at .openings) (6 * at .openings) =
                 rw (m .words) (splice-same s (at .left) (gather noteWords lefts) apart (omega (arith, length-notes lefts))) in
-                cells-agree s₁ s end end o (omega (arith, q .openings-in, f .1)) (omega (arith, q .openings-in, f .1))
-                (λ x pos upto. same .at (end - x) (omega (arith, q .openings-in, f .1)) (omega (arith, q .openings-in, f .1)))
+                cells-agree s₁ s end end o (omega (arith, q .closings-in, q .order, f .1)) (omega (arith, q .closings-in, q .order, f .1))
+                (λ x pos upto. same .at (end - x) (omega (arith, q .closings-in, q .order, f .1)) (omega (arith, q .closings-in, q .order, f .1)))
 
             pub right-asks : (at .right + 4 * length (acrossParts h b n (lastCells s₁ end o)) ≤ length s₁) × (6 * o ≤ end) × (end ≤ length s₁) × (b .line ≤ n .end)
             right-asks =
                 let room : at .right + 4 * length (acrossParts h b n (lastCells s end o)) ≤ length s = rw right-part at (q .right-room) in
-                (rw (still, long) room, omega (arith, q .openings-in, f .1), rw long (q .inside), omega arith)
+                (rw (still, long) room, omega (arith, q .closings-in, q .order, f .1), rw long (q .inside), omega arith)
 
             pub crossed-put : {s₂ : List ℕ} {r : ℕ} → Noted s₁ (at .right) (acrossParts h b n (lastCells s₁ end o)) s₂ r
                 → PartsPut s h a b n end at s₂ (record { left = l; right = r; closings = k; openings = o })
@@ -155,6 +173,7 @@ module _ {s : List ℕ} {h : Header} {a b : Half} {n : Note} {end : ℕ} {at : C
               closings-few = e .1;
               openings-are = opened;
               openings-few = f .1;
+              order = f .2;
               put = record {
                 words = m₂ .words ∙ rw (still, m .words, left-part, right-part);
                 left-behind = m .behind ∙ rw left-part (omega (arith, length-notes (acrossParts h a n (lastCells s end k))));

@@ -47,7 +47,7 @@ module _ {s₀ : List ℕ} {from : Contents} {to : Ends} {m n : ℕ} (p : BothPl
 pub record Noting (s₀ s : List ℕ) (h : Header) (a b : Half) (from : Contents) (to : Ends) (at : Cursors) (left : ℕ) : Type 0 where
   pub notes-few : left ≤ from .notes
   pub closings-few : at .closings ≤ from .cells
-  pub openings-few : at .openings ≤ from .cells
+  pub order : at .openings ≤ at .closings
   pub writes : BothWrites s₀ s to (placesOf at) (gather noteWords (notesLeft h a s₀ from (from .notes) (from .cells)))
       (gather noteWords (notesLeft h b s₀ from (from .notes) (from .cells))) (gather noteWords (notesLeft h a s₀ from left (at .closings)))
       (gather noteWords (notesLeft h b s₀ from left (at .openings)))
@@ -92,7 +92,7 @@ module _ {s₀ : List ℕ} {h : Header} {a b : Half} {from : Contents} {to : End
   noting-start = record {
     notes-few = omega arith;
     closings-few = omega arith;
-    openings-few = omega arith;
+    order = omega arith;
     writes = both-start s₀ to _ _ (rw (lefts, rights) (q .placed .apart));
   }
 
@@ -118,7 +118,7 @@ module _ {s₀ : List ℕ} {h : Header} {a b : Half} {from : Contents} {to : End
         closing-now = cells-now (at .closings) (l .closings-few)
 
         opening-now : lastCells s (from .end) (at .openings) ≡ lastCells s₀ (from .end) (at .openings)
-        opening-now = cells-now (at .openings) (l .openings-few)
+        opening-now = cells-now (at .openings) (omega (arith, l .closings-few, l .order))
 
         left-fits : at .left + 4 * length (partFrom h a n (lastCells s₀ (from .end) (at .closings))) ≤ to .left + 4 * length (notesLeft h a s₀ from (from .notes) (from .cells))
         left-fits = omega (arith, l .writes .left-place, lefts, first-fits s₀ h a (q .left-half) from left n first (at .closings))
@@ -131,14 +131,14 @@ module _ {s₀ : List ℕ} {h : Header} {a b : Half} {from : Contents} {to : End
             apart-swap
             (apart-within (from .end - 6 * at .openings) (6 * at .openings)
             (apart-swap (apart-within (at .left) (4 * length (partFrom h a n (lastCells s₀ (from .end) (at .closings)))) (q .placed .left-from) (l .writes .left-low) left-fits))
-            (omega (arith, q .placed .cells-in, l .openings-few))
-            (omega (arith, q .placed .cells-in, l .openings-few)))
+            (omega (arith, q .placed .cells-in, l .closings-few, l .order))
+            (omega (arith, q .placed .cells-in, l .closings-few, l .order)))
 
         pub parts-asks : PartsAsks s h a b n (from .end) at
         parts-asks = record {
           sides = q .sides;
           closings-in = omega (arith, q .placed .cells-in, l .closings-few);
-          openings-in = omega (arith, q .placed .cells-in, l .openings-few);
+          order = l .order;
           inside = inside;
           left-room = rw closing-now (omega (arith, left-fits, q .placed .left-room, l .writes .long));
           right-room = rw opening-now (omega (arith, right-fits, q .placed .right-room, l .writes .long));
@@ -148,7 +148,7 @@ module _ {s₀ : List ℕ} {h : Header} {a b : Half} {from : Contents} {to : End
         pub noting-note : {t : List ℕ} {r : Cursors} → PartsPut s h a b n (from .end) at t r → Noting s₀ t h a b from to r (left - 1)
         noting-note {t} {r} m =
             let few-closings : r .closings ≤ from .cells = omega (arith, m .closings-few, l .closings-few) in
-            let few-openings : r .openings ≤ from .cells = omega (arith, m .openings-few, l .openings-few) in
+            let few-openings : r .openings ≤ from .cells = omega (arith, m .order, few-closings) in
             let closed : lastCells s₀ (from .end) (r .closings) ≡ passed a n (lastCells s₀ (from .end) (at .closings)) =
             sym (cells-now (r .closings) few-closings) ∙ m .closings-are ∙ ap (passed a n) closing-now in
             let opened : lastCells s₀ (from .end) (r .openings) ≡ passed b n (lastCells s₀ (from .end) (at .openings)) =
@@ -156,7 +156,7 @@ module _ {s₀ : List ℕ} {h : Header} {a b : Half} {from : Contents} {to : End
             record {
               notes-few = omega (arith, l .notes-few);
               closings-few = few-closings;
-              openings-few = few-openings;
+              order = m .order;
               writes =
                   both-turn
                   (rw (

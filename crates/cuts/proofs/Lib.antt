@@ -1,6 +1,7 @@
 -- What the proofs of several functions share.
 pub mod Parts
 pub mod Passes
+pub mod Skips
 pub mod BothWrites
 pub mod BothParts
 pub mod BothPasses

@@ -53,6 +53,7 @@ pub record Sides (a b : Half) : Type 0 where
   pub right-is : b .right ≡ true
   pub beat-is : b .beat ≡ a .beat
   pub line-is : b .line ≡ a .line
+  pub edges : a .edge ≤ b .edge
 
 -- A half's part of a note, by the cells that the notes before it left.
 unfoldable pub partFrom : Header → Half → Note → List Cell → List Note
@@ -63,7 +64,7 @@ partFrom h v n cs = notePart h v n (passed v n cs)
 pub record PartsAsks (s : List ℕ) (h : Header) (a b : Half) (n : Note) (end : ℕ) (at : Cursors) : Type 0 where
   pub sides : Sides a b
   pub closings-in : 6 * at .closings ≤ end
-  pub openings-in : 6 * at .openings ≤ end
+  pub order : at .openings ≤ at .closings
   pub inside : end ≤ length s
   pub left-room : at .left + 4 * length (partFrom h a n (lastCells s end (at .closings))) ≤ length s
   pub right-room : at .right + 4 * length (partFrom h b n (lastCells s end (at .openings))) ≤ length s
@@ -75,6 +76,7 @@ pub record PartsPut (s : List ℕ) (h : Header) (a b : Half) (n : Note) (end : �
   pub closings-few : r .closings ≤ at .closings
   pub openings-are : lastCells s end (r .openings) ≡ passed b n (lastCells s end (at .openings))
   pub openings-few : r .openings ≤ at .openings
+  pub order : r .openings ≤ r .closings
   pub put : BothPut s (placesOf at) (gather noteWords (partFrom h a n (lastCells s end (at .closings))))
       (gather noteWords (partFrom h b n (lastCells s end (at .openings)))) t (placesOf r)
 

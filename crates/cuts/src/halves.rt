@@ -1,6 +1,8 @@
 // Both halves of a take, written into two other shelves of the session in one pass over the take's own notes and cells.
 ghost use mathlib.Core.Path.{_≡_};
+ghost use mathlib.Core.Bool.{cond};
 ghost use Prim.Native.Nat.{_+_, _-_, _*_, _/_, _≤_, _<_};
+ghost use lib.Dec.{ltb};
 ghost use lib.ListN.{length};
 ghost use Rattle.words.specs.Splice.{splice};
 ghost use Rattle.model.specs.Limits.{maxBeats, maxDelta};
@@ -178,7 +180,17 @@ pub struct Cursors {
     pub openings: usize,
 }
 
-// Both halves' parts of a note that crosses the line.
+// The lesser of two numbers of cells left: the place that is further on.
+fn further(a: usize, b: usize) -> usize
+    ensures { λ r. ⌜ r ≡ cond (ltb a b) a b ⌝ }
+{
+    if a < b {
+        return a;
+    }
+    b
+}
+
+// Both halves' parts of a note that crosses the line. The closing cell on it lies before the opening cell, so one search goes on from the other.
 fn put_crossed(
     s: &mut [u32],
     h: Header,
@@ -192,7 +204,8 @@ fn put_crossed(
     ensures { λ r. ⌜ PartsPut (now (s .entry)) h before behind n end at (now (s .exit)) r ⌝ }
 {
     let closings = clear::cells_from(s, end, at.closings, n.lane, before.edge);
-    let openings = clear::cells_from(s, end, at.openings, n.lane, behind.edge);
+    let on = further(closings, at.openings);
+    let openings = clear::cells_from(s, end, on, n.lane, behind.edge);
     let left = put_across(s, at.left, h, before, n, end, closings);
     let right = put_across(s, at.right, h, behind, n, end, openings);
     Cursors {
