@@ -171,8 +171,8 @@ fn put_across(
     to + 4
 }
 
-// Where the next note of each half goes, and how many cells are left from which on the left half's closing cells on the line are looked
-// for, and the right half's opening cells.
+// Where each half's next note goes, and how many cells are left among which the left half's closing cells on the line are looked for, and
+// the right half's opening cells.
 pub struct Cursors {
     pub left: usize,
     pub right: usize,
@@ -190,7 +190,7 @@ fn further(a: usize, b: usize) -> usize
     b
 }
 
-// Both halves' parts of a note that crosses the line. The closing cell on it lies before the opening cell, so one search goes on from the other.
+// Both halves' parts of a note that crosses the line. The search for the opening cell goes on where the closing cell was found.
 fn put_crossed(
     s: &mut [u32],
     h: Header,
@@ -204,8 +204,8 @@ fn put_crossed(
     ensures { λ r. ⌜ PartsPut (now (s .entry)) h before behind n end at (now (s .exit)) r ⌝ }
 {
     let closings = clear::cells_from(s, end, at.closings, n.lane, before.edge);
-    let on = further(closings, at.openings);
-    let openings = clear::cells_from(s, end, on, n.lane, behind.edge);
+    let ahead = further(closings, at.openings);
+    let openings = clear::cells_from(s, end, ahead, n.lane, behind.edge);
     let left = put_across(s, at.left, h, before, n, end, closings);
     let right = put_across(s, at.right, h, behind, n, end, openings);
     Cursors {
@@ -240,14 +240,8 @@ fn put_parts(
         };
     }
     if line <= n.start {
-        words::put_four(
-            s,
-            at.right,
-            n.lane,
-            n.start - line,
-            n.end - line,
-            n.velocity,
-        );
+        let start = n.start - line;
+        words::put_four(s, at.right, n.lane, start, n.end - line, n.velocity);
         return Cursors {
             left: at.left,
             right: at.right + 4,

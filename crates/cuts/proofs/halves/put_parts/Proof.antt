@@ -7,8 +7,8 @@ use Rattle.cuts.proofs.halves.put_parts.Tie as tie
 put-four-requires : tie.Need-put-four-requires
 put-four-requires c κs = before-room (c .before .before .before .before .pre) (c .before .if1 .taken)
 
-add-t13 : tie.Need-add-t13
-add-t13 c = search needs
+add-t14 : tie.Need-add-t14
+add-t14 c = search needs
 
 same-length : tie.Need-same-length
 same-length c = search needs
@@ -45,7 +45,7 @@ put-parts-spec =
     tie.close
     (tie.spec
     put-four-requires
-    add-t13
+    add-t14
     same-length
     returns
     sub-put-four
