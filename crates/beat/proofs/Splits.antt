@@ -1,17 +1,14 @@
 -- Split: the number by the way that the questions go, and both halves' words. Assumes nothing.
-use mathlib.Core.Path.{_≡_, refl, sym, ap, _∙_}
+use mathlib.Core.Path.{_≡_, refl, sym, _∙_}
 use mathlib.Core.Bool.{Bool, true, false, cond, not, _&&_, and-true, true≢false}
 use mathlib.Core.List.{List, [], _∷_}
 use Prim.Native.Nat.{ℕ, _+_, _-_, _≤_, _<_}
-use native.Mathlib.Nat.{add-zero}
 use native.Mathlib.Omega.{arith}
 use borrow.Author.Tests.{leb-true, ltb-true, le-leb, lt-leb, le-ltb, lt-ltb, eq-eqb, ne-eqb, not-true, not-false}
 use lib.Dec.{ltb, eqb}
-use lib.ListN.{length, getD, take, drop}
-use lib.Seq.{getD-drop, getD-take}
-use Rattle.words.specs.Parts.{length-part, part-splice-apart}
-use Rattle.words.specs.Splice.{splice, length-splice}
-use Rattle.model.specs.Limits.{maxBeats, maxDelta, maxShelves, maxWords, minWords}
+use lib.ListN.{length, getD}
+use Rattle.words.specs.Splice.{splice}
+use Rattle.model.specs.Limits.{maxBeats, maxDelta, maxShelves, maxWords}
 use Rattle.model.specs.Takes.{takeIn, wordsOf, splitLeft, splitRight}
 use Rattle.model.specs.Session.{headerOf, shelf, shelfAt, putShelf}
 use Rattle.model.specs.Soundness.{soundShelf}
@@ -23,14 +20,13 @@ use Rattle.model.specs.declared.HeaderAnswer.the-variants as answers
 use Rattle.model.proofs.Headers.{InRange, in-range, refused-means, valid-means}
 use Rattle.laws.specs.Booleans.{and-left, and-right}
 use Rattle.laws.specs.Reached.{split-number}
-use Rattle.laws.specs.Sessions.{length-words}
 use Rattle.laws.specs.Sound.{sound-beats}
 use Rattle.cuts.specs.declared.halves.Half.{Half}
 use Rattle.cuts.specs.Halving.{leftHalf, rightHalf, halfOf, HalfAsks}
+use Rattle.cuts.specs.BothHalves.{Sides, BothAsks}
 use Rattle.beat.specs.Splitting.{splitAsked, SplitAsks}
 use Rattle.beat.proofs.Calls.{after-refused, after-done}
 use Rattle.session.proofs.Sources.{beats-is, inside-session, place-asks}
-use Rattle.cuts.proofs.HalfWords.{shelves-apart, half-fits}
 
 -- ---- question 2 and question 3, by the way that the code goes
 
@@ -205,8 +201,8 @@ module _ {s : List ℕ} {h : Header} {i k l r : ℕ} (a : SplitAsks s h i k l r)
     pub right-asks : (h .delta ≤ maxDelta) × (getD s at 0 ≤ maxBeats) × (k ≤ getD s at 0)
     right-asks = (range .few-ticks, omega (arith, beats-are, granted .beats-few), omega (arith, beats-are, granted .beat-in))
 
-    module _ {v : Half} (is : v ≡ leftHalf (h .delta) k) where
-      pub first-asks : HalfAsks s h v i l
+    module _ {v : Half} (is : v ≡ leftHalf (h .delta) k) {u : Half} (also : u ≡ rightHalf (h .delta) k (getD s at 0)) where
+      first-asks : HalfAsks s h v i l
       unfolding halfOf splitLeft
       first-asks =
           rw is
@@ -220,35 +216,31 @@ module _ {s : List ℕ} {h : Header} {i k l r : ℕ} (a : SplitAsks s h i k l r)
             beats-are = refl;
           })
 
-      module _ {s₁ : List ℕ} (e : s₁ ≡ splice s (shelfAt h l) (wordsOf h (halfOf (h .delta) v (takeAt h s i)))) where
-        long : length s₁ ≡ length s
-        long = ap length e ∙ length-splice s (shelfAt h l) (wordsOf h (halfOf (h .delta) v (takeAt h s i)))
+      second-asks : HalfAsks s h u i r
+      unfolding halfOf splitRight
+      second-asks =
+          rw also
+          (record {
+            header = a .header;
+            take-below = granted .take-below;
+            to-below = granted .right-below;
+            differ = granted .take-right;
+            sound = granted .is-sound;
+            half = record { line-is = refl; edge-is = refl };
+            beats-are = rw beats-are;
+          })
 
-        -- the shelf that is read is as it was
-        still : shelf h s₁ i ≡ shelf h s i
-        unfolding shelf
-        still =
-            let size : length (wordsOf h (halfOf (h .delta) v (takeAt h s i))) ≡ h .words = length-words h (halfOf (h .delta) v (takeAt h s i)) (half-fits first-asks) in
-            rw e (part-splice-apart s (shelfAt h l) (wordsOf h (halfOf (h .delta) v (takeAt h s i))) (shelves-apart h i l (granted .take-left)) (omega arith))
+      sides : Sides v u
+      sides = rw (is, also) (record { left-is = refl; right-is = refl; beat-is = refl; line-is = refl; edges = omega arith })
 
-        module _ {u : Half} (also : u ≡ rightHalf (h .delta) k (getD s at 0)) where
-          pub second-asks : HalfAsks s₁ h u i r
-          unfolding halfOf splitRight
-          second-asks =
-              rw also
-              (record {
-                header = rw long (a .header);
-                take-below = granted .take-below;
-                to-below = granted .right-below;
-                differ = granted .take-right;
-                sound = rw still (granted .is-sound);
-                half = record { line-is = refl; edge-is = refl };
-                beats-are = rw (beats-are, still);
-              })
+      pub both-asks : BothAsks s h v u i l r
+      both-asks = record { sides = sides; left-asks = first-asks; right-asks = second-asks; differ = granted .left-right }
 
-          pub both-put : {s₂ : List ℕ} → s₂ ≡ splice s₁ (shelfAt h r) (wordsOf h (halfOf (h .delta) u (takeAt h s₁ i))) → s₂ ≡ putAll h s (results h s (splitCall i k l r))
-          unfolding putAll putShelf results halfOf
-          both-put f = f ∙ rw (still, e, is, also)
+      pub both-put : {t : List ℕ}
+          → t ≡ splice (splice s (shelfAt h l) (wordsOf h (halfOf (h .delta) v (takeAt h s i)))) (shelfAt h r) (wordsOf h (halfOf (h .delta) u (takeAt h s i)))
+          → t ≡ putAll h s (results h s (splitCall i k l r))
+      unfolding putAll putShelf results halfOf
+      both-put f = f ∙ rw (is, also)
 
 -- ---- the call
 

@@ -69,8 +69,7 @@ fn put_halves(s: &mut [u32], h: Header, take: u32, beat: u32, left: u32, right: 
     let beats = s[at];
     let before = halves::left_half(h.delta, beat);
     let behind = halves::right_half(h.delta, beat, beats);
-    halves::put_half(s, h, before, take, left);
-    halves::put_half(s, h, behind, take, right);
+    halves::put_both(s, h, before, behind, take, left, right);
 }
 
 // Splits a take at a beat: its beats before that beat go to the left shelf, the others to the right shelf. Returns the number of the

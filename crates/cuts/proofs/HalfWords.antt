@@ -1,8 +1,8 @@
--- A half of a sound shelf's take, written into another shelf. Assumes nothing.
+-- A sound shelf that is read, and a half of its take that fits another shelf. Assumes nothing.
 use mathlib.Core.Path.{_≡_, refl, sym, ap, _∙_}
 use mathlib.Core.Bool.{Bool, true, false, _&&_}
 use mathlib.Core.List.{List, [], _∷_, _++_}
-use Prim.Native.Nat.{ℕ, suc, _+_, _-_, _*_, _/_, _≤_, _<_}
+use Prim.Native.Nat.{ℕ, suc, _+_, _-_, _*_, _≤_, _<_}
 use native.Mathlib.Nat.{mul-le-mul, mul-le-mul-right, suc-mul}
 use native.Mathlib.Decide.{ℕ-discrete}
 use native.Mathlib.Omega.{arith}
@@ -11,11 +11,10 @@ use lib.Dec.{leb, ltb}
 use lib.ListN.{length, getD, drop}
 use lib.Seq.{getD-drop, getD-take}
 use Rattle.words.specs.Apart.{Apart, Apart.ahead, Apart.behind, apart-swap, apart-within}
-use Rattle.words.specs.Splice.{splice, length-splice}
 use Rattle.model.specs.Lists.{consIf, gather, keep}
 use Rattle.model.specs.Limits.{maxShelves, maxWords}
 use Rattle.model.specs.Session.{shelf, shelfAt}
-use Rattle.model.specs.Takes.{Take, noteWords, wordsUsed, word, notesIn, takeIn, notesOf, wordsOf, splitLeft, splitRight}
+use Rattle.model.specs.Takes.{Take, wordsUsed, word, notesIn, takeIn, notesOf, splitLeft, splitRight}
 use Rattle.model.specs.Questions.{fits, takeAt}
 use Rattle.model.specs.declared.Header.{Header}
 use Rattle.model.specs.declared.Cell.{Cell}
@@ -24,16 +23,14 @@ use Rattle.laws.specs.Booleans.{and-left, and-right}
 use Rattle.laws.specs.Counting.{split-fits}
 use Rattle.laws.specs.Halves.{left-pass, right-pass, left-half-cells, right-half-cells}
 use Rattle.laws.specs.Sound.{sound-solid, sound-notes, sound-used}
-use Rattle.session.specs.Framing.{framed}
 use Rattle.session.specs.Reading.{lastNotes, lastCells}
 use Rattle.session.proofs.Sources.{shelf-inside}
 use Rattle.cuts.specs.declared.halves.Half.{Half}
 use Rattle.cuts.specs.declared.halves.Contents.{Contents}
-use Rattle.cuts.specs.Making.{Made}
-use Rattle.cuts.specs.Halving.{halfOf, noteParts, cellPart, contentsAt, maxSession, notesLeft, cellsLeft, Noted, Placed, NotesAsks, CellsAsks, HalfAsks}
+use Rattle.cuts.specs.Halving.{halfOf, noteParts, contentsAt, maxSession, notesLeft, Placed, HalfAsks}
+use Rattle.cuts.specs.BothHalves.{leftCell, rightCell}
 use Rattle.cuts.proofs.Passes.{notes-agree, cells-agree, parts-right, parts-left}
-use Rattle.cuts.proofs.TakeWords as words
-use Rattle.cuts.proofs.TakeWords.{Counted, cells-still, take-room}
+use Rattle.cuts.proofs.TakeWords.{take-room}
 
 -- ---- two shelves
 
@@ -60,22 +57,19 @@ keep-gather p (c ∷ cs) = go (p c) (keep-gather p cs)
     go true e = ap (_∷_ c) e
     go false e = e
 
-gather-by : (f g : Cell → List Cell) → ((c : Cell) → f c ≡ g c) → (cs : List Cell) → gather f cs ≡ gather g cs
-gather-by f g h [] = refl
-gather-by f g h (c ∷ cs) = rw (h c, gather-by f g h cs)
+module _ (δ : ℕ) (v : Half) (t : Take) where
+  pub left-cells : v .right ≡ false → gather (leftCell (v .beat)) (t .cells) ≡ (halfOf δ v t) .cells
+  unfolding halfOf leftCell
+  left-cells e = sym (keep-gather (λ c. ltb (c .beat) (v .beat)) (t .cells)) ∙ sym (left-half-cells δ (v .beat) t) ∙ rw e
 
-half-cells : (δ : ℕ) (v : Half) (t : Take) → gather (cellPart v) (t .cells) ≡ (halfOf δ v t) .cells
-unfolding halfOf cellPart
-half-cells δ v t = go (v .right) refl
-  where
-    go : (b : Bool) → v .right ≡ b → gather (cellPart v) (t .cells) ≡ (halfOf δ v t) .cells
-    go true e = gather-by (cellPart v) _ (λ c. rw e) (t .cells) ∙ sym (right-half-cells δ (v .beat) t) ∙ rw e
-    go false e = gather-by (cellPart v) _ (λ c. rw e) (t .cells) ∙ sym (keep-gather (λ c. ltb (c .beat) (v .beat)) (t .cells)) ∙ sym (left-half-cells δ (v .beat) t) ∙ rw e
+  pub right-cells : v .right ≡ true → gather (rightCell (v .beat)) (t .cells) ≡ (halfOf δ v t) .cells
+  unfolding halfOf rightCell
+  right-cells e = sym (right-half-cells δ (v .beat) t) ∙ rw e
 
 -- ---- the half
 
 module _ {s : List ℕ} {h : Header} {v : Half} {i j : ℕ} (a : HalfAsks s h v i j) where
-  range : InRange h (length s)
+  pub range : InRange h (length s)
   range = in-range (a .header)
 
   abbrev ws : List ℕ
@@ -87,10 +81,10 @@ module _ {s : List ℕ} {h : Header} {v : Half} {i j : ℕ} (a : HalfAsks s h v 
   abbrev half : Take
   half = halfOf (h .delta) v t
 
-  source-inside : shelfAt h i + h .words ≤ length s
+  pub source-inside : shelfAt h i + h .words ≤ length s
   source-inside = shelf-inside h i (length s) range (a .take-below)
 
-  target-inside : shelfAt h j + h .words ≤ length s
+  pub target-inside : shelfAt h j + h .words ≤ length s
   target-inside = shelf-inside h j (length s) range (a .to-below)
 
   word-is : (k : ℕ) → k < h .words → getD ws k 0 ≡ getD s (shelfAt h i + k) 0
@@ -181,13 +175,9 @@ module _ {s : List ℕ} {h : Header} {v : Half} {i j : ℕ} (a : HalfAsks s h v 
   contents-asks e = rw e (omega (arith, source-inside, range .exact, mul-le-mul (range .few-shelves) (range .small)), omega (arith, source-inside, range .large))
 
   module _ {from : Contents} (r : Read from) where
-    notes-left : notesLeft h v s from (from .notes) (from .cells) ≡ notesOf h half
+    pub notes-left : notesLeft h v s from (from .notes) (from .cells) ≡ notesOf h half
     unfolding notesLeft
     notes-left = rw (r .notes-are, r .cells-are) half-notes
-
-    cells-left : cellsLeft v s from (from .cells) ≡ half .cells
-    unfolding cellsLeft
-    cells-left = rw (r .cells-are) (half-cells (h .delta) v t)
 
     -- a run of places inside the other shelf
     pub placed : (l : List ℕ) → length l ≡ length s → (to size : ℕ) → shelfAt h j ≤ to → to + size ≤ shelfAt h j + h .words → Placed l from to size
@@ -204,40 +194,3 @@ module _ {s : List ℕ} {h : Header} {v : Half} {i j : ℕ} (a : HalfAsks s h v 
               low high;
           room = omega (arith, target-inside);
         }
-
-    module _ {at : ℕ} (place : at ≡ shelfAt h j) where
-      pub notes-asks : NotesAsks s (at + 3) h v from
-      notes-asks = record { half = a .half; placed = placed s refl (at + 3) _ (omega arith) (omega (arith, ap length notes-left, room)) }
-
-      module _ {s₁ : List ℕ} {middle : ℕ} (noted : Noted s (at + 3) (notesLeft h v s from (from .notes) (from .cells)) s₁ middle) where
-        notes-put : Noted s (at + 3) (notesOf h half) s₁ middle
-        notes-put = rw notes-left at noted
-
-        long₁ : length s₁ ≡ length s
-        long₁ = ap length (notes-put .words) ∙ length-splice s (at + 3) (gather noteWords (notesOf h half))
-
-        -- the cells are as they were
-        cells-left₁ : cellsLeft v s₁ from (from .cells) ≡ half .cells
-        unfolding cellsLeft
-        cells-left₁ = rw (cells-still (notesLeft h v s from (from .notes) (from .cells)) (notes-asks .placed) noted) cells-left
-
-        pub cells-asks : CellsAsks s₁ middle v from
-        cells-asks =
-            record { placed = placed s₁ long₁ middle _ (omega (arith, notes-put .behind)) (omega (arith, notes-put .behind, ap length cells-left₁, room)) }
-
-        module _ {s₂ : List ℕ} {end : ℕ} (made : Made s₁ middle (cellsLeft v s₁ from (from .cells)) s₂ end) where
-          cells-put : Made s₁ middle (half .cells) s₂ end
-          cells-put = rw cells-left₁ at made
-
-          inside : at + h .words ≤ length s
-          inside = omega (arith, target-inside, place)
-
-          pub counted : Counted h half at middle end
-          counted = words.counted h half (range .small) half-fits at inside notes-put cells-put
-
-          pub frame-asks : (at + h .words ≤ length s₂) × (wordsUsed ((middle - (at + 3)) / 4) ((end - middle) / 6) ≤ h .words)
-          frame-asks = words.frame-asks h half (range .small) half-fits at inside notes-put cells-put
-
-          pub half-put : {s₃ : List ℕ} → s₃ ≡ framed s₂ at (h .words) (v .beats) ((middle - (at + 3)) / 4) ((end - middle) / 6)
-              → s₃ ≡ splice s (shelfAt h j) (wordsOf h half)
-          half-put e = words.take-put h half (range .small) half-fits at inside notes-put cells-put (a .beats-are) e ∙ ap (λ (x : ℕ). splice s x (wordsOf h half)) place

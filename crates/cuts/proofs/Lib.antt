@@ -1,8 +1,13 @@
 -- What the proofs of several functions share.
 pub mod Parts
 pub mod Passes
+pub mod Skips
+pub mod BothWrites
+pub mod BothParts
+pub mod BothPasses
 pub mod TakeWords
 pub mod HalfWords
+pub mod SplitWords
 pub mod JoinCells
 pub mod JoinSeam
 pub mod JoinWords

@@ -1,16 +1,16 @@
--- What a half has of a note and of a cell, by the way that the code goes. Assumes nothing.
+-- What a half has of a note, by the way that the code goes. Assumes nothing.
 use mathlib.Core.Path.{_≡_, _∙_}
 use mathlib.Core.Bool.{Bool, true, false, not}
 use mathlib.Core.List.{List, [], _∷_}
 use mathlib.Core.Option.{some}
 use Prim.Native.Nat.{ℕ, _+_, _-_, _*_, _≤_, _<_}
 use native.Mathlib.Omega.{arith}
-use borrow.Author.Tests.{le-leb, lt-leb, le-ltb, lt-ltb, eq-eqb, ne-eqb, not-true, not-false}
+use borrow.Author.Tests.{le-leb, lt-leb, eq-eqb, ne-eqb, not-true, not-false}
 use lib.ListN.{length}
 use Rattle.words.specs.Splice.{splice}
 use Rattle.model.specs.Lists.{consIf}
 use Rattle.model.specs.Binding.{standsAlone}
-use Rattle.model.specs.Takes.{noteWords, cellWords, cellTo}
+use Rattle.model.specs.Takes.{noteWords}
 use Rattle.model.specs.declared.Header.{Header}
 use Rattle.model.specs.declared.Note.{Note}
 use Rattle.model.specs.declared.Cell.{Cell}
@@ -19,8 +19,7 @@ use Rattle.laws.specs.Cutting.{noteBack, firstCell, closingCell}
 use Rattle.session.specs.Reading.{cellAt, lastCells}
 use Rattle.session.proofs.Lasts.{no-cells, cons}
 use Rattle.cuts.specs.declared.halves.Half.{Half}
-use Rattle.cuts.specs.Making.{Made}
-use Rattle.cuts.specs.Halving.{leftHalf, passed, lineCell, crossedNote, crossedBy, acrossParts, notePart, cellPart, Noted, PartAsks}
+use Rattle.cuts.specs.Halving.{leftHalf, passed, lineCell, crossedNote, crossedBy, acrossParts, notePart, Noted}
 
 -- the left half of a split at beat 0
 pub left-none : (δ k : ℕ) → k ≡ 0 → _≡_ {A = Half} (record { right = false; beat = 0; line = 0; edge = 0; beats = 0 }) (leftHalf δ k)
@@ -36,19 +35,9 @@ module _ (s : List ℕ) (to : ℕ) where
   pub noted-one : {ns : List Note} (m : Note) → ns ≡ m ∷ [] → {t : List ℕ} → t ≡ splice s to (noteWords m) → Noted s to ns t (to + 4)
   noted-one m e f = record { words = rw e f; behind = rw e (omega arith) }
 
-  pub made-none : {cs : List Cell} → cs ≡ [] → Made s to cs s to
-  unfolding splice
-  made-none e = record { words = rw e; behind = rw e (omega arith) }
-
-  pub made-one : {cs : List Cell} (c : Cell) → cs ≡ c ∷ [] → {t : List ℕ} → t ≡ splice s to (cellWords c) → Made s to cs t (to + 6)
-  made-one c e f = record { words = rw e f; behind = rw e (omega arith) }
-
--- room for what is one
+-- room for one
 pub one-note : (to len : ℕ) {ns : List Note} {m : Note} → ns ≡ m ∷ [] → to + 4 * length ns ≤ len → to + 4 ≤ len
 one-note to len e h = rw e at h
-
-pub one-cell : (to len : ℕ) {cs : List Cell} {c : Cell} → cs ≡ c ∷ [] → to + 6 * length cs ≤ len → to + 6 ≤ len
-one-cell to len e h = rw e at h
 
 -- ---- the cells that a note passes
 
@@ -155,34 +144,3 @@ module _ (h : Header) (v : Half) (n : Note) (cs : List Cell) where
     pub part-across : n .start < v .line → part ≡ acrossParts h v n cs
     unfolding notePart
     part-across j = rw (lt-leb (n .end) (v .line) i, lt-leb (v .line) (n .start) j)
-
-module _ {s : List ℕ} {to : ℕ} {h : Header} {v : Half} {n : Note} {end left : ℕ} (a : PartAsks s to h v n end left) (i : v .line < n .end) (j : n .start < v .line) where
-  same-part : notePart h v n (lastCells s end left) ≡ acrossParts h v n (lastCells s end left)
-  same-part = part-across h v n (lastCells s end left) i j
-
-  pub across-asks : (to + 4 * length (acrossParts h v n (lastCells s end left)) ≤ length s) × (6 * left ≤ end) × (end ≤ length s) × (v .line ≤ n .end)
-  across-asks = (rw same-part at (a .room), a .cells, a .inside, omega arith)
-
-  pub across-noted : {t : List ℕ} {r : ℕ} → Noted s to (acrossParts h v n (lastCells s end left)) t r → Noted s to (notePart h v n (lastCells s end left)) t r
-  across-noted m = rw same-part m
-
--- ---- a cell
-
-module _ (v : Half) (c : Cell) where
-  module _ (e : v .right ≡ true) where
-    pub cell-before : c .beat < v .beat → cellPart v c ≡ []
-    unfolding cellPart
-    cell-before i = rw (e, lt-leb (v .beat) (c .beat) i)
-
-    pub cell-moved : v .beat ≤ c .beat → cellPart v c ≡ cellTo (c .beat - v .beat) c ∷ []
-    unfolding cellPart
-    cell-moved i = rw (e, le-leb (v .beat) (c .beat) i)
-
-  module _ (e : v .right ≡ false) where
-    pub cell-behind : v .beat ≤ c .beat → cellPart v c ≡ []
-    unfolding cellPart
-    cell-behind i = rw (e, le-ltb (c .beat) (v .beat) i)
-
-    pub cell-kept : c .beat < v .beat → cellPart v c ≡ c ∷ []
-    unfolding cellPart
-    cell-kept i = rw (e, lt-ltb (c .beat) (v .beat) i)

@@ -1,17 +1,17 @@
--- The halves of a split: what a half has of a take, note by note and cell by cell, what each function is asked, and what it leaves.
+-- The halves of a split: what a half has of a take, note by note, and the shelf that is read.
 -- Assumes nothing.
 use mathlib.Core.Path.{_≡_}
 use mathlib.Core.Bool.{true, false, cond}
 use mathlib.Core.List.{List, [], _∷_}
 use mathlib.Core.Option.{Option, none, some}
 use Prim.Native.Nat.{ℕ, _+_, _-_, _*_, _≤_, _<_}
-use lib.Dec.{leb, ltb}
+use lib.Dec.{leb}
 use lib.ListN.{length}
 use Rattle.words.specs.Apart.{Apart}
 use Rattle.words.specs.Splice.{splice}
 use Rattle.model.specs.Lists.{consIf, gather}
 use Rattle.model.specs.Binding.{standsAlone}
-use Rattle.model.specs.Takes.{Take, noteWords, cellTo, word, splitLeft, splitRight}
+use Rattle.model.specs.Takes.{Take, noteWords, word, splitLeft, splitRight}
 use Rattle.model.specs.Soundness.{soundShelf}
 use Rattle.model.specs.Limits.{maxShelves, maxWords}
 use Rattle.model.specs.Session.{headerWords, shelf}
@@ -84,12 +84,6 @@ unfoldable pub noteParts : Header → Half → List Note → List Cell → List 
 unfolding cutLeftFrom cutRightFrom
 noteParts h v ns cs = cond (v .right) (cutRightFrom h (v .beat) ns cs) (cutLeftFrom h (v .beat) ns cs)
 
--- ---- its cells
-
--- A cell, if it is the half's.
-unfoldable pub cellPart : Half → Cell → List Cell
-cellPart v c = cond (v .right) (consIf (leb (v .beat) (c .beat)) (cellTo (c .beat - v .beat) c) []) (consIf (ltb (c .beat) (v .beat)) c [])
-
 -- ---- the shelf that is read
 
 -- The most words that a session has.
@@ -103,14 +97,10 @@ contentsBy at N C = record { notes = N; middle = at + 3 + 4 * N; cells = C; end 
 unfoldable pub contentsAt : List ℕ → ℕ → Contents
 contentsAt s at = contentsBy at (word s (at + 1)) (word s (at + 2))
 
--- The parts of the last notes, where so many cells are left, and the half's cells of the last cells.
+-- The parts of the last notes, where so many cells are left.
 unfoldable pub notesLeft : Header → Half → List ℕ → Contents → ℕ → ℕ → List Note
 unfolding noteParts lastNotes lastCells
 notesLeft h v s from k left = noteParts h v (lastNotes s (from .middle) k) (lastCells s (from .end) left)
-
-unfoldable pub cellsLeft : Half → List ℕ → Contents → ℕ → List Cell
-unfolding cellPart lastCells
-cellsLeft v s from left = gather (cellPart v) (lastCells s (from .end) left)
 
 -- ---- what is asked, and what is left
 
@@ -118,12 +108,6 @@ cellsLeft v s from left = gather (cellPart v) (lastCells s (from .end) left)
 pub record Noted (s : List ℕ) (at : ℕ) (notes : List Note) (t : List ℕ) (r : ℕ) : Type 0 where
   pub words : t ≡ splice s at (gather noteWords notes)
   pub behind : r ≡ at + 4 * length notes
-
--- Room for a note's part, and cells to look at.
-pub record PartAsks (s : List ℕ) (to : ℕ) (h : Header) (v : Half) (n : Note) (end left : ℕ) : Type 0 where
-  pub room : to + 4 * length (notePart h v n (lastCells s end left)) ≤ length s
-  pub cells : 6 * left ≤ end
-  pub inside : end ≤ length s
 
 -- The notes and cells of a shelf stand in their places from `low` on, and apart from the words that are written.
 pub record Placed (s : List ℕ) (from : Contents) (to size : ℕ) : Type 0 where
@@ -134,13 +118,6 @@ pub record Placed (s : List ℕ) (from : Contents) (to size : ℕ) : Type 0 wher
   pub inside : from .end ≤ length s
   pub apart : Apart low (from .end - low) to size
   pub room : to + size ≤ length s
-
-pub record NotesAsks (s : List ℕ) (to : ℕ) (h : Header) (v : Half) (from : Contents) : Type 0 where
-  pub half : HalfOk (h .delta) v
-  pub placed : Placed s from to (4 * length (notesLeft h v s from (from .notes) (from .cells)))
-
-pub record CellsAsks (s : List ℕ) (to : ℕ) (v : Half) (from : Contents) : Type 0 where
-  pub placed : Placed s from to (6 * length (cellsLeft v s from (from .cells)))
 
 -- A sound shelf, another shelf, and a half that the take in the first has.
 pub record HalfAsks (s : List ℕ) (h : Header) (v : Half) (take to : ℕ) : Type 0 where

@@ -1,16 +1,20 @@
-// One half of a take, written into another shelf of the session straight from the take's own notes and cells.
+// Both halves of a take, written into two other shelves of the session in one pass over the take's own notes and cells.
 ghost use mathlib.Core.Path.{_≡_};
-ghost use Prim.Native.Nat.{_+_, _*_, _≤_, _<_};
+ghost use mathlib.Core.Bool.{cond};
+ghost use Prim.Native.Nat.{_+_, _-_, _*_, _/_, _≤_, _<_};
+ghost use lib.Dec.{ltb};
 ghost use lib.ListN.{length};
 ghost use Rattle.words.specs.Splice.{splice};
 ghost use Rattle.model.specs.Limits.{maxBeats, maxDelta};
-ghost use Rattle.model.specs.Takes.{wordsOf};
+ghost use Rattle.model.specs.Lists.{gather};
+ghost use Rattle.model.specs.Takes.{noteWords, cellWords, cellTo, wordsOf};
 ghost use Rattle.model.specs.Session.{shelfAt};
 ghost use Rattle.model.specs.Questions.{takeAt};
 ghost use Rattle.laws.specs.Cutting.{firstCell};
+ghost use Rattle.session.specs.Framing.{framed};
 ghost use Rattle.session.specs.Reading.{lastCells};
-ghost use Rattle.cuts.specs.Making.{Made};
-ghost use Rattle.cuts.specs.Halving.{leftHalf, rightHalf, halfOf, passed, lineCell, crossedNote, acrossParts, notePart, cellPart, maxSession, contentsBy, contentsAt, Noted, PartAsks, NotesAsks, CellsAsks, HalfAsks, notesLeft, cellsLeft};
+ghost use Rattle.cuts.specs.Halving.{leftHalf, rightHalf, halfOf, lineCell, crossedNote, acrossParts, maxSession, contentsBy, contentsAt, notesLeft, Noted};
+ghost use Rattle.cuts.specs.BothHalves.{leftCell, rightCell, leftCells, rightCells, BothPut, PartsAsks, PartsPut, NotesAsks, CellsAsks, CountsAsks, BothAsks};
 use model::Cell;
 use model::Header;
 use model::Note;
@@ -102,20 +106,6 @@ pub fn contents_at(s: &[u32], at: usize) -> Contents
 
 // ---- notes
 
-// The cells from a note on: a note that crosses the line passes those before the half's beat at the line, any other passes none.
-fn passed_cells(s: &[u32], half: Half, n: Note, end: usize, left: usize) -> usize
-    requires { ⌜ (6 * left ≤ end) × (end ≤ length (now s)) ⌝ }
-    ensures { λ r. ⌜ (lastCells (now (s .entry)) end r ≡ passed half n (lastCells (now (s .entry)) end left)) × (r ≤ left) ⌝ }
-{
-    if n.end <= half.line {
-        return left;
-    }
-    if half.line <= n.start {
-        return left;
-    }
-    clear::cells_from(s, end, left, n.lane, half.edge)
-}
-
 // The cells from the half's own cell on the line on: its beat's opening cell for the right half, its beat's closing cell for the left.
 fn line_cells(s: &[u32], half: Half, end: usize, left: usize) -> usize
     requires { ⌜ (6 * left ≤ end) × (end ≤ length (now s)) ⌝ }
@@ -181,119 +171,194 @@ fn put_across(
     to + 4
 }
 
-// The half's part of a note: all of it, a part or nothing. Returns the place behind it.
-fn put_part(
-    s: &mut [u32],
-    to: usize,
-    h: Header,
-    half: Half,
-    n: Note,
-    end: usize,
-    left: usize,
-) -> usize
-    requires { ⌜ PartAsks (now s) to h half n end left ⌝ }
-    ensures { λ r. ⌜ Noted (now (s .entry)) to (notePart h half n (lastCells (now (s .entry)) end left)) (now (s .exit)) r ⌝ }
-{
-    let line = half.line;
-    if n.end <= line {
-        if half.right {
-            return to;
-        }
-        words::put_four(s, to, n.lane, n.start, n.end, n.velocity);
-        return to + 4;
-    }
-    if line <= n.start {
-        if half.right {
-            words::put_four(s, to, n.lane, n.start - line, n.end - line, n.velocity);
-            return to + 4;
-        }
-        return to;
-    }
-    put_across(s, to, h, half, n, end, left)
+// Where each half's next note goes, and how many cells are left among which the left half's closing cells on the line are looked for, and
+// the right half's opening cells.
+pub struct Cursors {
+    pub left: usize,
+    pub right: usize,
+    pub closings: usize,
+    pub openings: usize,
 }
 
-// The half's parts of a shelf's notes, in one pass over its notes and cells. Returns the place behind them.
-fn put_notes(s: &mut [u32], to: usize, h: Header, half: Half, from: Contents) -> usize
-    requires { ⌜ NotesAsks (now s) to h half from ⌝ }
-    ensures { λ r. ⌜ Noted (now (s .entry)) to (notesLeft h half (now (s .entry)) from (from .notes) (from .cells)) (now (s .exit)) r ⌝ }
+// The lesser of two numbers of cells left: the place that is further on.
+fn further(a: usize, b: usize) -> usize
+    ensures { λ r. ⌜ r ≡ cond (ltb a b) a b ⌝ }
 {
-    let mut at = to;
+    if a < b {
+        return a;
+    }
+    b
+}
+
+// Both halves' parts of a note that crosses the line. The search for the opening cell goes on where the closing cell was found.
+fn put_crossed(
+    s: &mut [u32],
+    h: Header,
+    before: Half,
+    behind: Half,
+    n: Note,
+    end: usize,
+    at: Cursors,
+) -> Cursors
+    requires { ⌜ PartsAsks (now s) h before behind n end at × (before .line < n .end) × (n .start < before .line) ⌝ }
+    ensures { λ r. ⌜ PartsPut (now (s .entry)) h before behind n end at (now (s .exit)) r ⌝ }
+{
+    let closings = clear::cells_from(s, end, at.closings, n.lane, before.edge);
+    let ahead = further(closings, at.openings);
+    let openings = clear::cells_from(s, end, ahead, n.lane, behind.edge);
+    let left = put_across(s, at.left, h, before, n, end, closings);
+    let right = put_across(s, at.right, h, behind, n, end, openings);
+    Cursors {
+        left,
+        right,
+        closings,
+        openings,
+    }
+}
+
+// Both halves' parts of a note: all of it to the one or to the other, or a part to each.
+fn put_parts(
+    s: &mut [u32],
+    h: Header,
+    before: Half,
+    behind: Half,
+    n: Note,
+    end: usize,
+    at: Cursors,
+) -> Cursors
+    requires { ⌜ PartsAsks (now s) h before behind n end at ⌝ }
+    ensures { λ r. ⌜ PartsPut (now (s .entry)) h before behind n end at (now (s .exit)) r ⌝ }
+{
+    let line = before.line;
+    if n.end <= line {
+        words::put_four(s, at.left, n.lane, n.start, n.end, n.velocity);
+        return Cursors {
+            left: at.left + 4,
+            right: at.right,
+            closings: at.closings,
+            openings: at.openings,
+        };
+    }
+    if line <= n.start {
+        let start = n.start - line;
+        words::put_four(s, at.right, n.lane, start, n.end - line, n.velocity);
+        return Cursors {
+            left: at.left,
+            right: at.right + 4,
+            closings: at.closings,
+            openings: at.openings,
+        };
+    }
+    put_crossed(s, h, before, behind, n, end, at)
+}
+
+// The places behind what is written of each half.
+pub struct Ends {
+    pub left: usize,
+    pub right: usize,
+}
+
+// Both halves' parts of a shelf's notes, in one pass over its notes and cells. Returns the places behind them.
+fn put_notes(s: &mut [u32], h: Header, before: Half, behind: Half, from: Contents, to: Ends) -> Ends
+    requires { ⌜ NotesAsks (now s) h before behind from to ⌝ }
+    ensures { λ r. ⌜ BothPut (now (s .entry)) to (gather noteWords (notesLeft h before (now (s .entry)) from (from .notes) (from .cells))) (gather noteWords (notesLeft h behind (now (s .entry)) from (from .notes) (from .cells))) (now (s .exit)) r ⌝ }
+{
+    let mut at = Cursors {
+        left: to.left,
+        right: to.right,
+        closings: from.cells,
+        openings: from.cells,
+    };
     let mut left = from.notes;
-    let mut cells = from.cells;
     while 0 < left {
         let n = notes::note_at(s, from.middle - 4 * left);
-        cells = passed_cells(s, half, n, from.end, cells);
-        at = put_part(s, at, h, half, n, from.end, cells);
+        at = put_parts(s, h, before, behind, n, from.end, at);
         left -= 1;
     }
-    at
+    Ends {
+        left: at.left,
+        right: at.right,
+    }
 }
 
 // ---- cells
 
-// A cell, if it is the half's, counted from the half's first beat. Returns the place behind it.
-fn put_cell_part(s: &mut [u32], to: usize, half: Half, c: Cell) -> usize
-    requires { ⌜ to + 6 * length (cellPart half c) ≤ length (now s) ⌝ }
-    ensures { λ r. ⌜ Made (now (s .entry)) to (cellPart half c) (now (s .exit)) r ⌝ }
+// A cell, put into a beat, written from place `to` on.
+fn put_cell_in(s: &mut [u32], to: usize, beat: u32, c: Cell)
+    requires { ⌜ to + 6 ≤ length (now s) ⌝ }
+    ensures { λ _. ⌜ now (s .exit) ≡ splice (now (s .entry)) to (cellWords (cellTo beat c)) ⌝ }
 {
-    if half.right {
-        if c.beat < half.beat {
-            return to;
-        }
-        words::put_six(
-            s,
-            to,
-            c.lane,
-            c.beat - half.beat,
-            c.side,
-            c.before,
-            c.after,
-            c.velocity,
-        );
-        return to + 6;
-    }
-    if half.beat <= c.beat {
-        return to;
-    }
-    words::put_six(s, to, c.lane, c.beat, c.side, c.before, c.after, c.velocity);
-    to + 6
+    words::put_six(s, to, c.lane, beat, c.side, c.before, c.after, c.velocity);
 }
 
-// The half's cells of a shelf's cells. Returns the place behind them.
-fn put_cells(s: &mut [u32], to: usize, half: Half, from: Contents) -> usize
-    requires { ⌜ CellsAsks (now s) to half from ⌝ }
-    ensures { λ r. ⌜ Made (now (s .entry)) to (cellsLeft half (now (s .entry)) from (from .cells)) (now (s .exit)) r ⌝ }
+// A cell, written to its half, counted from the half's first beat. Returns the places behind each half's cells.
+fn put_cell(s: &mut [u32], beat: u32, c: Cell, at: Ends) -> Ends
+    requires { ⌜ (at .left + 6 * length (leftCell beat c) ≤ length (now s)) × (at .right + 6 * length (rightCell beat c) ≤ length (now s)) ⌝ }
+    ensures { λ r. ⌜ BothPut (now (s .entry)) at (gather cellWords (leftCell beat c)) (gather cellWords (rightCell beat c)) (now (s .exit)) r ⌝ }
+{
+    if c.beat < beat {
+        put_cell_in(s, at.left, c.beat, c);
+        return Ends {
+            left: at.left + 6,
+            right: at.right,
+        };
+    }
+    put_cell_in(s, at.right, c.beat - beat, c);
+    Ends {
+        left: at.left,
+        right: at.right + 6,
+    }
+}
+
+// Both halves' cells of a shelf's cells. Returns the places behind them.
+fn put_cells(s: &mut [u32], beat: u32, from: Contents, to: Ends) -> Ends
+    requires { ⌜ CellsAsks (now s) beat from to ⌝ }
+    ensures { λ r. ⌜ BothPut (now (s .entry)) to (gather cellWords (leftCells beat (now (s .entry)) from (from .cells))) (gather cellWords (rightCells beat (now (s .entry)) from (from .cells))) (now (s .exit)) r ⌝ }
 {
     let mut at = to;
     let mut left = from.cells;
     while 0 < left {
         let c = notes::cell_at(s, from.end - 6 * left);
-        at = put_cell_part(s, at, half, c);
+        at = put_cell(s, beat, c, at);
         left -= 1;
     }
     at
 }
 
-// ---- the half
+// ---- the halves
 
-// One half of the take in one shelf, written into another shelf: notes, then cells behind them, then the counts and zeros.
-pub fn put_half(s: &mut [u32], h: Header, half: Half, take: u32, shelf: u32)
-    requires { ⌜ HalfAsks (now s) h half take shelf ⌝ }
-    ensures { λ _. ⌜ now (s .exit) ≡ splice (now (s .entry)) (shelfAt h shelf) (wordsOf h (halfOf (h .delta) half (takeAt h (now (s .entry)) take))) ⌝ }
+// The counts and zeros of a shelf at a place, whose notes stand up to `middle` and whose cells up to `end`.
+fn put_counts(s: &mut [u32], at: usize, words: u32, beats: u32, middle: usize, end: usize)
+    requires { ⌜ CountsAsks (now s) at words middle end ⌝ }
+    ensures { λ _. ⌜ now (s .exit) ≡ framed (now (s .entry)) at words beats ((middle - (at + 3)) / 4) ((end - middle) / 6) ⌝ }
+{
+    let notes = (middle - (at + 3)) / 4;
+    let cells = (end - middle) / 6;
+    shelf::put_frame(s, at, words as usize, beats, notes as u32, cells as u32);
+}
+
+// Both halves of the take in one shelf, each written into another shelf: notes, then cells behind them, then the counts and zeros.
+pub fn put_both(
+    s: &mut [u32],
+    h: Header,
+    before: Half,
+    behind: Half,
+    take: u32,
+    left: u32,
+    right: u32,
+)
+    requires { ⌜ BothAsks (now s) h before behind take left right ⌝ }
+    ensures { λ _. ⌜ now (s .exit) ≡ splice (splice (now (s .entry)) (shelfAt h left) (wordsOf h (halfOf (h .delta) before (takeAt h (now (s .entry)) take)))) (shelfAt h right) (wordsOf h (halfOf (h .delta) behind (takeAt h (now (s .entry)) take))) ⌝ }
 {
     let from = contents_at(s, header::shelf_at(h, take));
-    let at = header::shelf_at(h, shelf);
-    let first = at + 3;
-    let middle = put_notes(s, first, h, half, from);
-    let end = put_cells(s, middle, half, from);
-    let count = (middle - first) / 4;
-    let cells = (end - middle) / 6;
-    shelf::put_frame(
-        s,
-        at,
-        h.words as usize,
-        half.beats,
-        count as u32,
-        cells as u32,
-    );
+    let l = header::shelf_at(h, left);
+    let r = header::shelf_at(h, right);
+    let first = Ends {
+        left: l + 3,
+        right: r + 3,
+    };
+    let middle = put_notes(s, h, before, behind, from, first);
+    let end = put_cells(s, before.beat, from, middle);
+    put_counts(s, l, h.words, before.beats, middle.left, end.left);
+    put_counts(s, r, h.words, behind.beats, middle.right, end.right);
 }

@@ -1,7 +1,7 @@
 -- `beat::splitting::put_halves` meets its contract. Assumes nothing.
 use Rattle.model.proofs.Headers.{in-range}
 use native.Mathlib.Omega.{arith}
-use Rattle.beat.proofs.Splits.{source-asks, source-inside, left-asks, right-asks, first-asks, second-asks, both-put}
+use Rattle.beat.proofs.Splits.{source-asks, source-inside, left-asks, right-asks, both-asks, both-put}
 use borrow.Author.Needs.{needs}
 use Rattle.beat.proofs.splitting.put_halves.Statement.{statement}
 use Rattle.beat.proofs.splitting.put_halves.Tie as tie
@@ -21,17 +21,14 @@ left-half-requires c κs = left-asks (c .before .before .before .pre)
 right-half-requires : tie.Need-right-half-requires
 right-half-requires c κs = right-asks (c .before .before .before .before .pre) (c .before .before .shelf-at .ensures)
 
-put-half-requires : tie.Need-put-half-requires
-put-half-requires c κs = first-asks (c .before .before .before .before .before .before .pre) (c .before .before .before .before .shelf-at .ensures) (c .before .before .left-half .ensures)
-
-put-half-requires-2 : tie.Need-put-half-requires-2
-put-half-requires-2 c κs = second-asks (c .before .before .before .before .before .before .before .before .before .before .pre) (c .before .before .before .before .before .before .before .before .shelf-at .ensures) (c .before .before .before .before .before .before .left-half .ensures) (c .before .before .before .put-half .ensures) (c .before .before .before .before .before .right-half .ensures)
+put-both-requires : tie.Need-put-both-requires
+put-both-requires c κs = both-asks (c .before .before .before .before .before .before .pre) (c .before .before .before .before .shelf-at .ensures) (c .before .before .left-half .ensures) (c .before .right-half .ensures)
 
 same-length : tie.Need-same-length
 same-length c = search needs
 
 returns : tie.Need-returns
-returns c = both-put (c .before .before .before .before .before .before .before .before .before .before .before .before .before .pre) (c .before .before .before .before .before .before .before .before .before .before .before .shelf-at .ensures) (c .before .before .before .before .before .before .before .before .before .left-half .ensures) (c .before .before .before .before .before .before .put-half .ensures) (c .before .before .before .before .before .before .before .before .right-half .ensures) (c .before .before .put-half2 .ensures)
+returns c = both-put (c .before .before .before .before .before .before .before .before .before .pre) (c .before .before .before .before .before .before .before .shelf-at .ensures) (c .before .before .before .before .before .left-half .ensures) (c .before .before .before .before .right-half .ensures) (c .before .before .put-both .ensures)
 
 pub put-halves-spec : {M : Type 1} → statement M
 put-halves-spec =
@@ -42,7 +39,6 @@ put-halves-spec =
     slice-read-beats
     left-half-requires
     right-half-requires
-    put-half-requires
-    put-half-requires-2
+    put-both-requires
     same-length
     returns)

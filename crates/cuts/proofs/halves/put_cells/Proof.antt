@@ -1,15 +1,15 @@
 -- `cuts::halves::put_cells` meets its contract. The measure is how many cells are left. Assumes nothing.
 use native.Mathlib.Omega.{arith}
-use Rattle.cuts.proofs.Passes.{Celling, celling-start, cell-place, cell-room, cell-asks, celling-cell, cells-done}
+use Rattle.cuts.proofs.BothPasses.{Celling, celling-start, cell-place, cell-room, cell-asks, celling-cell, cells-done}
 use borrow.Author.Needs.{needs}
 use Rattle.cuts.proofs.halves.put_cells.Statement.{statement}
 use Rattle.cuts.proofs.halves.put_cells.Tie as tie
 
 abbrev Inv-loop : tie.InvT-loop
-Inv-loop s₀ to half from at₀ left₀ s at left = Celling s₀ s to half from at left
+Inv-loop s₀ beat from at₀ left₀ s at left = Celling s₀ s beat from at₀ at left
 
 abbrev μ-loop : tie.MeasureT-loop
-μ-loop s₀ to half from at₀ left₀ s at left = left
+μ-loop s₀ beat from at₀ left₀ s at left = left
 
 loop-holds : tie.Need-loop-holds Inv-loop μ-loop
 loop-holds c = celling-start (c .before .pre)
@@ -23,8 +23,8 @@ sub-cell-at c = omega (arith, cell-place (c .before .before .before .before .bef
 cell-at-requires : tie.Need-cell-at-requires Inv-loop μ-loop
 cell-at-requires c κs = cell-room (c .before .before .before .before .before .pre) (c .before .before .before .loop .inv) (c .before .before .loop-test .taken)
 
-put-cell-part-requires : tie.Need-put-cell-part-requires Inv-loop μ-loop
-put-cell-part-requires c κs = cell-asks (c .before .before .before .before .before .before .before .pre) (c .before .before .before .before .before .loop .inv) (c .before .before .before .before .loop-test .taken) (c .before .cell-at .ensures)
+put-cell-requires : tie.Need-put-cell-requires Inv-loop μ-loop
+put-cell-requires c κs = cell-asks (c .before .before .before .before .before .before .before .pre) (c .before .before .before .before .before .loop .inv) (c .before .before .before .before .loop-test .taken) (c .before .cell-at .ensures)
 
 sub-left : tie.Need-sub-left Inv-loop μ-loop
 sub-left c = search needs
@@ -33,7 +33,7 @@ loop-less : tie.Need-loop-less Inv-loop μ-loop
 loop-less c = search needs
 
 loop-again : tie.Need-loop-again Inv-loop μ-loop
-loop-again c = celling-cell (c .before .before .before .before .before .before .before .before .before .before .pre) (c .before .before .before .before .before .before .before .before .loop .inv) (c .before .before .before .before .before .before .before .loop-test .taken) (c .before .before .before .before .cell-at .ensures) (c .before .before .put-cell-part .ensures)
+loop-again c = celling-cell (c .before .before .before .before .before .before .before .before .before .before .pre) (c .before .before .before .before .before .before .before .before .loop .inv) (c .before .before .before .before .before .before .before .loop-test .taken) (c .before .before .before .before .cell-at .ensures) (c .before .before .put-cell .ensures)
 
 same-length : tie.Need-same-length Inv-loop μ-loop
 same-length c = c .before .loop .inv .writes .long
@@ -51,7 +51,7 @@ put-cells-spec =
     mul-cell-at
     sub-cell-at
     cell-at-requires
-    put-cell-part-requires
+    put-cell-requires
     sub-left
     loop-less
     loop-again

@@ -1,15 +1,16 @@
 -- `cuts::halves::put_notes` meets its contract. The measure is how many notes are left. Assumes nothing.
 use native.Mathlib.Omega.{arith}
-use Rattle.cuts.proofs.Passes.{Noting, noting-start, cells-asks, note-place, note-room, part-asks, noting-note, notes-done}
+use Rattle.cuts.proofs.BothPasses.{Noting, noting-start, note-place, note-room, parts-asks, noting-note, notes-done}
+use Rattle.cuts.specs.BothHalves.{placesOf}
 use borrow.Author.Needs.{needs}
 use Rattle.cuts.proofs.halves.put_notes.Statement.{statement}
 use Rattle.cuts.proofs.halves.put_notes.Tie as tie
 
 abbrev Inv-loop : tie.InvT-loop
-Inv-loop s₀ to h half from at₀ left₀ cells₀ s at left cells = Noting s₀ s to h half from at left cells
+Inv-loop s₀ h before behind from at₀ left₀ s at left = Noting s₀ s h before behind from (placesOf at₀) at left
 
 abbrev μ-loop : tie.MeasureT-loop
-μ-loop s₀ to h half from at₀ left₀ cells₀ s at left cells = left
+μ-loop s₀ h before behind from at₀ left₀ s at left = left
 
 loop-holds : tie.Need-loop-holds Inv-loop μ-loop
 loop-holds c = noting-start (c .before .pre)
@@ -23,11 +24,8 @@ sub-note-at c = omega (arith, note-place (c .before .before .before .before .bef
 note-at-requires : tie.Need-note-at-requires Inv-loop μ-loop
 note-at-requires c κs = note-room (c .before .before .before .before .before .pre) (c .before .before .before .loop .inv) (c .before .before .loop-test .taken)
 
-passed-cells-requires : tie.Need-passed-cells-requires Inv-loop μ-loop
-passed-cells-requires c κs = cells-asks (c .before .before .before .before .before .before .before .pre) (c .before .before .before .before .before .loop .inv)
-
-put-part-requires : tie.Need-put-part-requires Inv-loop μ-loop
-put-part-requires c κs = part-asks (c .before .before .before .before .before .before .before .before .before .pre) (c .before .before .before .before .before .before .before .loop .inv) (c .before .before .before .before .before .before .loop-test .taken) (c .before .before .before .note-at .ensures) (c .before .passed-cells .ensures)
+put-parts-requires : tie.Need-put-parts-requires Inv-loop μ-loop
+put-parts-requires c κs = parts-asks (c .before .before .before .before .before .before .before .pre) (c .before .before .before .before .before .loop .inv) (c .before .before .before .before .loop-test .taken) (c .before .note-at .ensures)
 
 sub-left : tie.Need-sub-left Inv-loop μ-loop
 sub-left c = search needs
@@ -36,7 +34,7 @@ loop-less : tie.Need-loop-less Inv-loop μ-loop
 loop-less c = search needs
 
 loop-again : tie.Need-loop-again Inv-loop μ-loop
-loop-again c = noting-note (c .before .before .before .before .before .before .before .before .before .before .before .before .pre) (c .before .before .before .before .before .before .before .before .before .before .loop .inv) (c .before .before .before .before .before .before .before .before .before .loop-test .taken) (c .before .before .before .before .before .before .note-at .ensures) (c .before .before .before .before .passed-cells .ensures) (c .before .before .put-part .ensures)
+loop-again c = noting-note (c .before .before .before .before .before .before .before .before .before .before .pre) (c .before .before .before .before .before .before .before .before .loop .inv) (c .before .before .before .before .before .before .before .loop-test .taken) (c .before .before .before .before .note-at .ensures) (c .before .before .put-parts .ensures)
 
 same-length : tie.Need-same-length Inv-loop μ-loop
 same-length c = c .before .loop .inv .writes .long
@@ -54,8 +52,7 @@ put-notes-spec =
     mul-note-at
     sub-note-at
     note-at-requires
-    passed-cells-requires
-    put-part-requires
+    put-parts-requires
     sub-left
     loop-less
     loop-again
