@@ -1,5 +1,5 @@
 -- How an event's definition goes on at each test of the reader. Assumes nothing.
-use mathlib.Core.Bool.{Bool, true, false, _&&_, _||_}
+use mathlib.Core.Bool.{Bool, true, false, cond, _&&_, _||_}
 use mathlib.Core.List.{List}
 use mathlib.Core.Path.{_≡_, refl, sym, ap, _∙_}
 use Prim.Native.Nat.{ℕ, zero, suc, _+_, _-_, _*_, _/_, _%_, _≤_, _<_}
@@ -7,7 +7,7 @@ use native.Mathlib.Numerals.{add-one}
 use native.Mathlib.Omega.{arith}
 use lib.Dec.{leb, ltb, eqb}
 use lib.ListN.{length, getD}
-use borrow.Author.Tests.{lt-ltb, le-ltb, le-leb, lt-leb, eq-eqb, eqb-true, ne-eqb}
+use borrow.Author.Tests.{lt-ltb, le-ltb, ltb-true, ltb-false, le-leb, lt-leb, eq-eqb, eqb-true, ne-eqb}
 use Rattle.midi.specs.Numbers.{noQuantity, quantity, quantityAt}
 use Rattle.midi.specs.Events.{
   Place,
@@ -30,7 +30,9 @@ use Rattle.midi.specs.Events.{
   eventAt,
 }
 use Rattle.midi.proofs.Branches.{same-test}
+use lib.Bits.{bitOr, or-add-and, and-le-l, and-le-r}
 use Rattle.track.specs.Reading.{secondAt, overAt, endAt}
+use Rattle.track.proofs.ReadGroups.{group-last}
 
 -- ---- data bytes
 
@@ -225,3 +227,65 @@ module _ (s : List ℕ) (p : Place) where
   pub event-behind : (d q : ℕ) → quantityAt s (p .at) ≡ quantity d q → behindTime s (p .tick + d) (p .running) q ≡ eventAt s p
   unfolding eventAt
   event-behind d q e = rw (e, eventAt)
+
+-- A note of four bytes: a time of one group, a status of 8n or 9n, key and velocity.
+module _ (s : List ℕ) (p : Place) (room : p .at + 4 ≤ length s) (short : getD s (p .at) 0 < 128) (note : getD s (p .at + 1) 0 / 32 ≡ 4)
+    (low : getD s (p .at + 2) 0 < 128) (soft : getD s (p .at + 3) 0 < 128) where
+  abbrev at : ℕ
+  at = p .at
+
+  abbrev status : ℕ
+  status = getD s (at + 1) 0
+
+  abbrev tick : ℕ
+  tick = p .tick + getD s at 0
+
+  third : at + 2 + 1 ≡ at + 3
+  third = omega arith
+
+  second : at + 1 + 1 ≡ at + 2
+  second = omega arith
+
+  time : quantityAt s at ≡ quantity (getD s at 0) (at + 1)
+  time = let z : 0 * 128 + getD s at 0 ≡ getD s at 0 = omega arith in rw z at (group-last 4 s at 0 (omega arith) (omega arith) short)
+
+  data-bytes : secondAt s tick status (getD s (at + 2) 0) (at + 3) ≡ channelAt s tick status (at + 2)
+  data-bytes = rw third at (channel-two s tick status (at + 2) (data-low s (at + 2) (omega arith) low) (λ e. omega arith))
+
+  own : channelAt s tick status (at + 2) ≡ behindTime s tick (p .running) (at + 1)
+  own = own-channel s tick status (at + 2) (omega arith) ∙ (rw second at (behind-own s tick (p .running) (at + 1) (omega arith) (omega arith)))
+
+  fourth : at + 3 + 1 ≡ at + 4
+  fourth = omega arith
+
+  pub event-note : (m : Message) → m ≡ channelMessage status (getD s (at + 2) 0) (getD s (at + 3) 0) → event (place (at + 4) tick status) m ≡ eventAt s p
+  event-note m e =
+      (rw fourth at (second-there s tick status (getD s (at + 2) 0) (at + 3) (data-low s (at + 3) (omega arith) soft) m e))
+      ∙ data-bytes ∙ own ∙ event-behind s p (getD s at 0) (at + 1) time
+
+-- what 8n and 9n say, by the velocity v of the note that they start
+module _ (status key velocity v : ℕ) (note : status / 32 ≡ 4) (e : v ≡ cond (ltb status 144) 0 velocity) where
+  pub note-ends : v ≡ 0 → ends (status % 16 * 128 + key) ≡ channelMessage status key velocity
+  note-ends z = go (ltb status 144) refl where
+    go : (b : Bool) → ltb status 144 ≡ b → ends (status % 16 * 128 + key) ≡ channelMessage status key velocity
+    go true t = let h : status < 144 = ltb-true status 144 t in message-ends status key velocity (λ f. omega arith) (omega arith)
+    go false t =
+        let h : 144 ≤ status = ltb-false status 144 t in
+        let f : v ≡ velocity = rw t at e in
+        message-silent status key velocity (omega arith) (omega arith)
+
+  pub note-starts : (v ≡ 0 → ⊥) → starts (status % 16 * 128 + key) v ≡ channelMessage status key velocity
+  note-starts z = go (ltb status 144) refl where
+    go : (b : Bool) → ltb status 144 ≡ b → starts (status % 16 * 128 + key) v ≡ channelMessage status key velocity
+    go true t = absurd (z (rw t at e))
+    go false t =
+        let h : 144 ≤ status = ltb-false status 144 t in
+        let f : v ≡ velocity = rw t at e in
+        rw f (message-starts status key velocity (omega arith) (λ x. z (f ∙ x)))
+
+-- the bits of three numbers together are at least each
+pub or-most : (a b c n : ℕ) → bitOr (bitOr a b) c < n → (a < n) × (b < n) × (c < n)
+or-most a b c n h =
+    let x = or-add-and a b in
+    let y = or-add-and (bitOr a b) c in
+    (omega (arith, x, y, and-le-l a b, and-le-r a b, and-le-r (bitOr a b) c), omega (arith, x, y, and-le-l a b, and-le-r (bitOr a b) c), omega (arith, y, and-le-l (bitOr a b) c))

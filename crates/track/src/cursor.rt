@@ -1,8 +1,8 @@
 // A place in a track, and the event that stands there (question 12).
 ghost use mathlib.Core.Path.{_≡_};
-ghost use mathlib.Core.Bool.{true, false};
-ghost use Prim.Native.Nat.{_+_, _*_, _≤_, _<_};
-ghost use lib.Dec.{leb, eqb};
+ghost use mathlib.Core.Bool.{true, false, cond};
+ghost use Prim.Native.Nat.{_+_, _*_, _/_, _≤_, _<_};
+ghost use lib.Dec.{leb, ltb, eqb};
 ghost use lib.ListN.{length, getD};
 ghost use Rattle.model.specs.Limits.{maxBeats, maxDelta};
 ghost use Rattle.midi.specs.Events.{place, channelMessage, channelAt, metaAt, sysexAt, ownStatus, behindTime, eventAt};
@@ -199,6 +199,43 @@ fn behind_time(s: &[u8], tick: u32, running: u8, q: usize) -> Event
     channel_at(s, tick, running, q)
 }
 
+// The event at a place, of any kind: its time, counted from the event before it, then status and data.
+fn any_event(s: &[u8], at: usize, tick: u32, running: u8) -> Event
+    requires { ⌜ tick ≤ maxBeats * maxDelta ⌝ }
+    ensures { λ r. ⌜ eventOf r ≡ eventAt (now (s .entry)) (place at tick running) ⌝ }
+{
+    match quantities::quantity_at(s, at) {
+        Quantity::Nothing => Event::Illegal,
+        Quantity::Number(d, q) => behind_time(s, tick + d, running, q),
+    }
+}
+
+// The velocity of the note that 8n or 9n starts: none for 8n.
+fn start_velocity(status: u8, velocity: u8) -> u32
+    ensures { λ r. ⌜ r ≡ cond (ltb status 144) 0 velocity ⌝ }
+{
+    if status < 144 {
+        return 0;
+    }
+    velocity as u32
+}
+
+// What 8n and 9n say: an end is a start with velocity 0.
+fn note_message(status: u8, key: u8, velocity: u8) -> Message
+    requires { ⌜ status / 32 ≡ 4 ⌝ }
+    ensures { λ r. ⌜ messageOf r ≡ channelMessage status key velocity ⌝ }
+{
+    let lane = (status % 16) as u32 * 128 + key as u32;
+    let starts = start_velocity(status, velocity);
+    if starts == 0 {
+        return Message::Ends(lane);
+    }
+    Message::Starts {
+        lane: lane,
+        velocity: starts,
+    }
+}
+
 impl Cursor {
     // The first byte of a track, at tick 0, with no running status.
     pub fn start() -> Cursor
@@ -211,16 +248,33 @@ impl Cursor {
         }
     }
 
-    // The event at this place: its time, counted from the event before it, then status and data.
+    // The event at this place. Most are notes of four bytes: a time of one group, 8n or 9n, key and velocity. These are read here, in few
+    // steps, so that this function is compiled into the loops over events.
     pub fn event(self, s: &[u8]) -> Event
-        requires { ⌜ self .tick ≤ maxBeats * maxDelta ⌝ }
+        requires { ⌜ (self .tick ≤ maxBeats * maxDelta) × (self .at ≤ length (now s)) ⌝ }
         ensures { λ r. ⌜ eventOf r ≡ eventAt (now (s .entry)) (placeOf self) ⌝ }
     {
+        let at = self.at;
         let tick = self.tick;
         let running = self.running;
-        match quantities::quantity_at(s, self.at) {
-            Quantity::Nothing => Event::Illegal,
-            Quantity::Number(d, q) => behind_time(s, tick + d, running, q),
+        if s.len() < at + 4 {
+            return any_event(s, at, tick, running);
         }
+        let time = s[at];
+        let status = s[at + 1];
+        let key = s[at + 2];
+        let velocity = s[at + 3];
+        // None of the three is 128 or more where all their bits together are less.
+        if (time | key | velocity) < 128 {
+            if status / 32 == 4 {
+                let next = Cursor {
+                    at: at + 4,
+                    tick: tick + time as u32,
+                    running: status,
+                };
+                return Event::Legal(next, note_message(status, key, velocity));
+            }
+        }
+        any_event(s, at, tick, running)
     }
 }
