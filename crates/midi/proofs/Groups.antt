@@ -102,7 +102,3 @@ pub groups-by-zeros : (x : ℕ) → 0 < x → x < 268435456 → (38 - leadingZer
 groups-by-zeros x p h =
     let t = leading-top 32 x p (omega arith) in
     by-bits x (t .0) (leadingZeros 32 x) (t .1) (t .2) (t .3) h
-
-pub groups-of-zero : length (quantityBytes 0) ≡ 1
-unfolding quantityBytes
-groups-of-zero = refl

@@ -3,7 +3,7 @@ use mathlib.Core.Path.{_≡_, refl, sym, ap}
 use mathlib.Core.List.{List, [], _∷_}
 use Prim.Native.Nat.{ℕ, _+_, _/_, _%_, _<_}
 use native.Mathlib.Omega.{arith}
-use borrow.Author.Tests.{ltb-true}
+use borrow.Author.Tests.{lt-ltb, ltb-true}
 use lib.Dec.{ltb}
 use lib.ListN.{length}
 use Rattle.midi.specs.Numbers.{quantityBytes}
@@ -23,6 +23,10 @@ groups n =
     (λ b. by-test (Groups n) (ltb n 2097152)
     (λ c. let h = ltb-true n 2097152 c in let e : n / 16384 % 128 ≡ n / 16384 = omega arith in three (ap (λ (x : ℕ). (128 + x) ∷ (128 + n / 128 % 128) ∷ n % 128 ∷ []) (sym e)))
     (λ c. four refl)))
+
+pub group-of-few : (n : ℕ) → n < 128 → 1 ≡ length (quantityBytes n)
+unfolding quantityBytes
+group-of-few n h = rw (lt-ltb n 128 h, quantityBytes)
 
 pub one-group : (n : ℕ) → length (quantityBytes n) ≡ 1 → quantityBytes n ≡ n % 128 ∷ []
 one-group n e = go (groups n) where

@@ -9,12 +9,12 @@ ghost use Rattle.midi.specs.Writing.{messageBytes, endOfTrack};
 ghost use Rattle.track.specs.Keys.{eventOf};
 use crate::bytes;
 
-// How many groups of seven bits a time takes: the fewest.
+// How many groups of seven bits a time takes: the fewest. Most times take one.
 pub fn group_count(x: u32) -> u32
     requires { ⌜ x < 268435456 ⌝ }
     ensures { λ r. ⌜ r ≡ length (quantityBytes x) ⌝ }
 {
-    if x == 0 {
+    if x < 128 {
         return 1;
     }
     (38 - u32::leading_zeros(x)) / 7

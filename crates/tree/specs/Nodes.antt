@@ -1,13 +1,14 @@
 -- A winner tree in a list: the sons of node p stand at 2 p and 2 p + 1, n leaves at n and behind. Assumes nothing.
-use mathlib.Core.Path.{_≡_, refl, sym, ap, _∙_}
+use mathlib.Core.Path.{_≡_, refl, sym, ap, ap₂, _∙_}
 use mathlib.Core.Bool.{Bool, true, false}
 use mathlib.Core.Logic.{_⊎_, ⊎-elim, inl, inr}
 use mathlib.Core.List.{List, [], _∷_}
-use Prim.Native.Nat.{ℕ, zero, suc, _+_, _*_, _-_, _/_, _≤_, _<_}
+use Prim.Native.Nat.{ℕ, zero, suc, _+_, _*_, _-_, _/_, _%_, _≤_, _<_}
 use native.Mathlib.Nat.{not-suc-le-zero}
 use native.Mathlib.Omega.{arith}
 use lib.ListN.{length, getD, set, length-set}
 use lib.Seq.{getD-set-same, getD-set-other}
+use lib.Bits.{bitXor, differ, xor-step, xor-zero-r}
 use lib.Dec.{ltb}
 use borrow.Author.Tests.{lt-ltb, le-ltb}
 use Rattle.tree.specs.Sort.{lt-or-ge}
@@ -114,15 +115,25 @@ from-all w h = record { at = λ p l m d. w .at p (omega arith) m }
 pub but-root : {t : List ℕ} {n h : ℕ} → TreeBut t n h → h ≡ 0 → TreeBut t n 0
 but-root w e = rw e at w
 
+-- the other son of a node's father differs in the last bit
+pub other-son : (i : ℕ) → bitXor i 1 ≡ i / 2 * 2 + (1 - i % 2)
+other-son i =
+    xor-step i 1 ∙ ap₂ (λ (x y : ℕ). x * 2 + y) (xor-zero-r (i / 2)) (go (i % 2) (omega arith))
+  where
+    go : (b : ℕ) → b < 2 → differ b 1 ≡ 1 - b
+    go zero h = refl
+    go (suc zero) h = refl
+    go (suc (suc b)) h = absurd (not-suc-le-zero {n = 0} (omega arith))
+
 -- the lesser of a node's sons, from one of them and the other
-pub of-sons : (t : List ℕ) (i v r : ℕ) → v ≡ getD t i 0 → r ≡ lesser v (getD t (4 * (i / 2) + 1 - i) 0) → r ≡ lesser (getD t (2 * (i / 2)) 0) (getD t (2 * (i / 2) + 1) 0)
+pub of-sons : (t : List ℕ) (i v r : ℕ) → v ≡ getD t i 0 → r ≡ lesser v (getD t (bitXor i 1) 0) → r ≡ lesser (getD t (2 * (i / 2)) 0) (getD t (2 * (i / 2) + 1) 0)
 of-sons t i v r a b =
     ⊎-elim (λ (y : i < 2 * (i / 2) + 1).
-    let x : 4 * (i / 2) + 1 - i ≡ 2 * (i / 2) + 1 = omega arith in
+    let x : bitXor i 1 ≡ 2 * (i / 2) + 1 = omega (arith, other-son i) in
     let z : i ≡ 2 * (i / 2) = omega arith in
     b ∙ ap (λ (j : ℕ). lesser v (getD t j 0)) x ∙ ap (λ (u : ℕ). lesser u (getD t (2 * (i / 2) + 1) 0)) (a ∙ ap (λ (j : ℕ). getD t j 0) z))
     (λ (y : 2 * (i / 2) + 1 ≤ i).
-    let x : 4 * (i / 2) + 1 - i ≡ 2 * (i / 2) = omega arith in
+    let x : bitXor i 1 ≡ 2 * (i / 2) = omega (arith, other-son i) in
     let z : i ≡ 2 * (i / 2) + 1 = omega arith in
     b ∙ ap (λ (j : ℕ). lesser v (getD t j 0)) x ∙ ap (λ (u : ℕ). lesser u (getD t (2 * (i / 2)) 0)) (a ∙ ap (λ (j : ℕ). getD t j 0) z) ∙ lesser-comm (getD t (2 * (i / 2) + 1) 0) (getD t (2 * (i / 2)) 0))
     (lt-or-ge i (2 * (i / 2) + 1))

@@ -35,8 +35,8 @@ pub fn replace(t: &mut [u64], n: usize, leaf: usize, key: u64) -> u64
     t[i] = v;
     while 1 < i {
         let p = i / 2;
-        // The other son of node p.
-        v = least(v, t[4 * p + 1 - i]);
+        // The other son of node p differs in its last bit.
+        v = least(v, t[i ^ 1]);
         t[p] = v;
         i = p;
     }

@@ -3,7 +3,7 @@ use Prim.Native.Nat.{_+_, _*_, _-_, _/_, _<_, _≤_}
 use native.Mathlib.Omega.{arith}
 use lib.ListN.{length, getD, set, length-set}
 use lib.Seq.{getD-set-same}
-use Rattle.tree.specs.Nodes.{TreeBut, LeavesKept, leaf-set, but-set, but-root, of-sons, kept-same, kept-set, put-leaf, put-kept}
+use Rattle.tree.specs.Nodes.{TreeBut, LeavesKept, leaf-set, but-set, but-root, other-son, of-sons, kept-same, kept-set, put-leaf, put-kept}
 use borrow.Author.Needs.{needs}
 use Rattle.tree.proofs.replace.Statement.{statement}
 use Rattle.tree.proofs.replace.Tie as tie
@@ -35,23 +35,11 @@ loop-holds c = let a = c .before .args in (search needs, search needs, rw length
 
 -- src/lib.rt:41:24
 mul-least : tie.Need-mul-least Inv-loop μ-loop
-mul-least c = search needs
-
--- src/lib.rt:41:24
-add-least : tie.Need-add-least Inv-loop μ-loop
-add-least c = search needs
-
--- src/lib.rt:41:24
-sub-least : tie.Need-sub-least Inv-loop μ-loop
-sub-least c = search needs
-
--- src/lib.rt:41:22
-mul-least-2 : tie.Need-mul-least-2 Inv-loop μ-loop
-mul-least-2 c = search needs
+mul-least c = let l = c .before .loop in omega (arith, other-son (l .i), l .inv .1, l .inv .2)
 
 -- src/lib.rt:41:22
 slice-read-least : tie.Need-slice-read-least Inv-loop μ-loop
-slice-read-least c = search needs
+slice-read-least c = let l = c .before .before .loop in omega (arith, other-son (l .i), l .inv .1, l .inv .2)
 
 -- src/lib.rt:41:9
 least-requires : tie.Need-least-requires Inv-loop μ-loop
@@ -92,9 +80,6 @@ replace-spec =
     slice-write-t
     loop-holds
     mul-least
-    add-least
-    sub-least
-    mul-least-2
     slice-read-least
     least-requires
     mul-t-2

@@ -1,6 +1,6 @@
 -- `track::putting::group_count` meets its contract: the number of bits from the leading zeros, seven to a group. Assumes nothing.
-use mathlib.Core.Path.{sym}
-use Rattle.midi.proofs.Groups.{groups-by-zeros, groups-of-zero}
+use Rattle.midi.proofs.Groups.{groups-by-zeros}
+use Rattle.track.proofs.Groups.{group-of-few}
 use lib.Count.{leading-le}
 use native.Mathlib.Omega.{arith}
 use borrow.Author.Needs.{needs}
@@ -11,7 +11,7 @@ use Rattle.track.proofs.putting.group_count.Lts as lts
 
 -- src/putting.rt:18:9
 returns : tie.Need-returns
-returns c = rw (c .if1 .taken) (sym groups-of-zero)
+returns c = group-of-few _ (c .if1 .taken)
 
 -- src/putting.rt:20:6
 sub-result : tie.Need-sub-result
