@@ -224,12 +224,12 @@ last-some {line} {words} {out} {p = p} {q} h some one =
     record { output = rw same at (one .takes .output); end = rw same at (one .takes .end); few = one .small }
 
 pub last-whole : {line words out out' : List ℕ} {p e : Progress} {n : ℕ} → e ≡ record { at = p .at; kept = p .kept; length = p .length; end = 0 }
-    → Put out (e .end) (writtenLast (readingOf line words e)) out' n → length out ≡ 65536 → Last line words p out' n
+    → Put out (e .end) (writtenLast (readingOf line words e)) out' n → length out ≡ 65536 → Last line words p out' (p .end + n)
 last-whole {line} {words} {out} {out'} {p} {e} {n} is put large =
     let ws = writtenLast (readingOf line words p) in
     let put' : Put out 0 ws out' n = rw is at put in
     let count : n ≡ length ws = omega (arith, put' .end) in
     record {
-      count = count;
-      output = ap₂ take count (put' .output) ∙ part-splice-written out 0 ws (omega (arith, count, put' .few));
+      count = omega (arith, count);
+      output = ap (take (length ws)) (put' .output) ∙ part-splice-written out 0 ws (omega (arith, count, put' .few));
     }

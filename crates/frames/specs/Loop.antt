@@ -1,9 +1,11 @@
 -- What the program's loop over standard input leaves. Assumes nothing.
-use mathlib.Core.Path.{_≡_}
+use mathlib.Core.Path.{_≡_, sym, ap, ap₂, _∙_}
 use mathlib.Core.List.{List, _++_}
 use Prim.Native.Nat.{ℕ, _+_, _≤_}
+use native.Mathlib.Omega.{arith}
 use lib.ListN.{length, take, drop}
-use Rattle.frames.specs.Input.{takenAll, writtenAll, writtenLast}
+use lib.Seq.{drop-append-le}
+use Rattle.frames.specs.Input.{start, takenAll, writtenAll, writtenLast, outputOf}
 use Rattle.frames.specs.Blocks.{readingOf, Holds}
 use Rattle.frames.specs.declared.input.Progress.{Progress}
 
@@ -30,7 +32,17 @@ pub record ReadSome (line words out : List ℕ) (p : Progress) (line' words' out
   pub sent : ℕ
   pub whole : ReadWhole line words out p input sent line' words' out' q
 
--- The answer to a last line without a line feed is the first n bytes of the output.
+-- The answer to a last line without a line feed is at the start of the output; n bytes were written, what was collected before and it.
 pub record Last (line words : List ℕ) (p : Progress) (out' : List ℕ) (n : ℕ) : Type 0 where
-  pub count : n ≡ length (writtenLast (readingOf line words p))
-  pub output : take n out' ≡ writtenLast (readingOf line words p)
+  pub count : n ≡ p .end + length (writtenLast (readingOf line words p))
+  pub output : take (length (writtenLast (readingOf line words p))) out' ≡ writtenLast (readingOf line words p)
+
+-- What is collected behind an input, and the answer to its last line, are all that is to be written for it behind what was sent.
+pub rest-written : {line words out input : List ℕ} {sent : ℕ} {line' words' out' : List ℕ} {q : Progress}
+    → ReadWhole line words out (record { at = 0; kept = 0; length = 0; end = 0 }) input sent line' words' out' q
+    → take (q .end) out' ++ writtenLast (readingOf line' words' q) ≡ drop sent (outputOf input)
+unfolding outputOf start
+rest-written {input = input} {sent} {out' = out'} {q} h =
+    let ws = writtenAll start input in
+    let last = writtenLast (takenAll start input) in
+    ap₂ _++_ (h .output) (ap writtenLast (h .state)) ∙ sym (drop-append-le sent ws last (omega (arith, h .count)))

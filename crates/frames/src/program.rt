@@ -114,14 +114,14 @@ fn last_line(line: &[u8], words: &mut [u32], out: &mut [u8], p: Progress) -> usi
     last.end
 }
 
-// Writes all that is collected, and then the answer to the last line. Returns how long that answer is.
+// Writes all that is collected, and then the answer to the last line. Returns how many bytes these are.
 fn finish(line: &[u8], words: &mut [u32], out: &mut [u8], p: Progress) -> usize
     requires { ⌜ Holds (now line) (now words) p × (p .end ≤ length (now out)) × (length (now out) ≡ outBytes) ⌝ }
     ensures { λ r. ⌜ Last (now (line .entry)) (now (words .entry)) p (now (out .exit)) r ⌝ }
 {
-    flush(out, p.end);
+    let sent = flush(out, p.end);
     let end = last_line(line, words, out, emptied(p));
-    flush(out, end)
+    sent + flush(out, end)
 }
 
 // Answers standard input to its end.

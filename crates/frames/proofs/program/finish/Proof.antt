@@ -26,6 +26,10 @@ last-line-requires c κs = (holds-moved (c .emptied .ensures) (c .before .before
 flush-requires-2 : tie.Need-flush-requires-2
 flush-requires-2 c κs = omega (arith, c .before .before .before .before .before .last-line .ensures .few, moved-end (c .before .before .before .before .before .before .emptied .ensures))
 
+-- src/program.rt:124:5
+add-result : tie.Need-add-result
+add-result c = omega (arith, c .before .before .before .before .before .before .before .before .before .before .flush .ensures, c .flush2 .ensures, c .before .before .before .before .before .before .last-line .ensures .few, moved-end (c .before .before .before .before .before .before .before .emptied .ensures))
+
 -- src/program.rt:118:1
 same-length : tie.Need-same-length
 same-length c = search needs
@@ -36,7 +40,7 @@ same-length-2 c = search needs
 
 -- src/program.rt:118:1
 returns : tie.Need-returns
-returns c = rw (c .flush2 .ensures) (last-whole (c .before .before .before .before .before .before .before .emptied .ensures) (c .before .before .before .before .before .before .last-line .ensures) (c .before .before .before .before .before .before .before .before .before .before .before .before .before .before .before .pre .2))
+returns c = rw (c .before .before .before .before .before .before .before .before .before .before .flush .ensures, c .flush2 .ensures) (last-whole (c .before .before .before .before .before .before .before .emptied .ensures) (c .before .before .before .before .before .before .last-line .ensures) (c .before .before .before .before .before .before .before .before .before .before .before .before .before .before .before .pre .2))
 
 pub finish-spec : {M : Type 1} → statement M
 finish-spec =
@@ -46,6 +50,7 @@ finish-spec =
     emptied-requires
     last-line-requires
     flush-requires-2
+    add-result
     same-length
     same-length-2
     returns)

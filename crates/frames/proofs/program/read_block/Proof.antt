@@ -49,11 +49,11 @@ read-on-requires-2 c κs = (holds-moved (c .emptied .ensures) (c .before .before
 
 -- src/program.rt:74:5
 loop-less : tie.Need-loop-less Inv-loop μ-loop
-loop-less c = omega (arith, reads-some (c .before .before .before .before .before .before .read-on2 .ensures) (omega (arith, c .before .before .before .before .before .before .before .before .before .before .before .before .before .before .before .loop .inv .large)) (moved-end (c .before .before .before .before .before .before .before .emptied .ensures)) (omega (arith, moved-at (c .before .before .before .before .before .before .before .emptied .ensures), c .before .before .before .before .before .before .before .before .before .before .before .before .before .if1 .taken)), moved-at (c .before .before .before .before .before .before .before .emptied .ensures), c .before .before .before .before .before .before .read-on2 .ensures .within)
+loop-less c = omega (arith, reads-some (c .before .before .before .before .before .before .read-on2 .ensures) (omega (arith, c .before .before .before .before .before .before .before .before .before .before .before .before .before .before .before .loop .inv .large)) (moved-end (c .before .before .before .before .before .before .before .emptied .ensures)) (omega (arith, moved-at (c .before .before .before .before .before .before .before .emptied .ensures), c .before .before .before .before .before .before .before .before .before .before .before .before .before .if1 .taken, c .before .before .before .before .before .before .before .before .before .before .before .before .before .before .before .loop .inv .within)), moved-at (c .before .before .before .before .before .before .before .emptied .ensures), c .before .before .before .before .before .before .read-on2 .ensures .within)
 
 -- src/program.rt:74:5
 loop-again : tie.Need-loop-again Inv-loop μ-loop
-loop-again c = rw (c .before .before .before .before .before .before .before .before .before .before .before .flush .ensures) (between-on (c .before .before .before .before .before .before .before .before .before .before .before .before .before .before .before .loop .inv) (c .before .before .before .before .before .before .before .before .before .before .before .before .before .if1 .taken) (c .before .before .before .before .before .before .before .emptied .ensures) (c .before .before .before .before .before .before .read-on2 .ensures) (omega arith))
+loop-again c = rw (c .before .before .before .before .before .before .before .before .before .before .before .flush .ensures) (between-on (c .before .before .before .before .before .before .before .before .before .before .before .before .before .before .before .loop .inv) (omega (arith, c .before .before .before .before .before .before .before .before .before .before .before .before .before .if1 .taken, c .before .before .before .before .before .before .before .before .before .before .before .before .before .before .before .loop .inv .within)) (c .before .before .before .before .before .before .before .emptied .ensures) (c .before .before .before .before .before .before .read-on2 .ensures) (omega arith))
 
 -- src/program.rt:62:1
 same-length : tie.Need-same-length Inv-loop μ-loop
