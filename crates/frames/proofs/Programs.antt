@@ -12,7 +12,7 @@ use Rattle.words.specs.Splice.{splice, splice-parts}
 use Rattle.words.specs.Parts.{part-splice-written}
 use Rattle.frames.specs.Answers.{lineAnswer}
 use Rattle.frames.specs.Answering.{Put}
-use Rattle.frames.specs.Input.{written, taken, takenAll, writtenAll, writtenLast}
+use Rattle.frames.specs.Input.{written, takenAll, writtenAll, writtenLast}
 use Rattle.frames.specs.Blocks.{readingOf, Holds, Takes, TakesOne, ReadOn}
 use Rattle.frames.specs.Loop.{ReadWhole, ReadSome, Last}
 use Rattle.frames.specs.declared.input.Progress.{Progress}

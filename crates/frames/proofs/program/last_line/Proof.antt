@@ -1,6 +1,5 @@
 -- `frames::program::last_line` meets its contract. Assumes nothing.
 use Rattle.frames.proofs.Programs.{last-none, last-some}
-use native.Mathlib.Omega.{arith}
 use borrow.Author.Needs.{needs}
 use Rattle.frames.proofs.program.last_line.Statement.{statement}
 use Rattle.frames.proofs.program.last_line.Tie as tie
