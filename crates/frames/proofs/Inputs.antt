@@ -68,12 +68,12 @@ module _ {line words out : List ℕ} {p : Progress} (h : Holds line words p) whe
 
 -- ---- bytes one behind the other
 
-taken-append : (r : Reading) (bs cs : List ℕ) → takenAll r (bs ++ cs) ≡ takenAll (takenAll r bs) cs
+pub taken-append : (r : Reading) (bs cs : List ℕ) → takenAll r (bs ++ cs) ≡ takenAll (takenAll r bs) cs
 unfolding takenAll
 taken-append r [] cs = refl
 taken-append r (b ∷ bs) cs = taken-append (taken r b) bs cs
 
-written-append : (r : Reading) (bs cs : List ℕ) → writtenAll r (bs ++ cs) ≡ writtenAll r bs ++ writtenAll (takenAll r bs) cs
+pub written-append : (r : Reading) (bs cs : List ℕ) → writtenAll r (bs ++ cs) ≡ writtenAll r bs ++ writtenAll (takenAll r bs) cs
 unfolding writtenAll takenAll
 written-append r [] cs = refl
 written-append r (b ∷ bs) cs = rw (written-append (taken r b) bs cs) (sym (append-assoc (written r b) (writtenAll (taken r b) bs) (writtenAll (takenAll (taken r b) bs) cs)))

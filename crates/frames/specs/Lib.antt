@@ -7,4 +7,5 @@ pub mod Answering
 pub mod Input
 pub mod Whole
 pub mod Blocks
+pub mod Loop
 pub mod Examples

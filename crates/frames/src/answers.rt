@@ -18,6 +18,9 @@ pub struct Answered {
     pub end: usize,
 }
 
+// The bytes of the output that a write frame's file must fit.
+const OUTPUT_BYTES: usize = 8192;
+
 // The calls that change an open session, by their call byte. Returns 255 for an unknown one.
 fn change(session: &mut [u32], call: u8, bytes: &[u8]) -> u32
     requires { ⌜ length (now bytes) ≤ 2000 ⌝ }
@@ -53,7 +56,7 @@ fn answer_write(session: &[u32], bytes: &[u8], out: &mut [u8], at: usize) -> usi
     requires { ⌜ at + maxAnswer ≤ length (now out) ⌝ }
     ensures { λ r. ⌜ Put (now (out .entry)) at (answerOf (now (session .entry)) (writeOf (now (bytes .entry)))) (now (out .exit)) r ⌝ }
 {
-    let mut file = [0u8; 8192];
+    let mut file = [0u8; OUTPUT_BYTES];
     let done = calls::write(session, bytes, &mut file);
     let size = done.size;
     digits::put_byte(out, at, done.number as u8);

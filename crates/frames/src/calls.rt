@@ -17,6 +17,9 @@ use file::writing;
 // The number of a malformed line.
 const MALFORMED: u32 = 255;
 
+// The words of the largest session.
+pub const MAX_SESSION: u64 = 8192;
+
 // The number of two bytes at a place, high byte first.
 fn half_at(bytes: &[u8], at: usize) -> u32
     requires { ⌜ at + 2 ≤ length (now bytes) ⌝ }
@@ -147,7 +150,7 @@ fn open_session(
     ensures { λ r. ⌜ Opened (now (words .entry)) held (openFrame (record { delta = delta; epsilon = epsilon; shelves = shelves; words = «shelf_words» })) (now (words .exit)) r ⌝ }
 {
     let asked = 4 + (shelves as u64) * (shelf_words as u64);
-    if 8192 < asked {
+    if MAX_SESSION < asked {
         return Done {
             number: 1,
             size: held,

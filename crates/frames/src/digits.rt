@@ -6,6 +6,9 @@ ghost use Rattle.words.specs.Splice.{splice};
 ghost use Rattle.frames.specs.Digits.{digitValue, digitOf, byteDigits, digitsOf};
 ghost use Rattle.frames.specs.Lines.{decoded};
 
+// No line of more digits is a frame.
+const MAX_DIGITS: usize = 4000;
+
 // The value of a digit, and 16 for another character.
 fn digit_value(c: u8) -> u8
     ensures { λ r. ⌜ r ≡ digitValue c ⌝ }
@@ -42,7 +45,7 @@ pub fn decode(line: &[u8], bytes: &mut [u8]) -> usize
     requires { ⌜ 2000 ≤ length (now bytes) ⌝ }
     ensures { λ r. ⌜ (r ≡ length (decoded (now (line .entry)))) × (take r (now (bytes .exit)) ≡ decoded (now (line .entry))) × (r ≤ 2000) ⌝ }
 {
-    if 4000 < line.len() {
+    if MAX_DIGITS < line.len() {
         return 0;
     }
     if line.len() % 2 != 0 {

@@ -7,6 +7,12 @@ ghost use Rattle.frames.specs.Input.{kept};
 ghost use Rattle.frames.specs.Blocks.{maxKept, Holds, TakesOne, ReadOn};
 use crate::answers;
 
+// Characters of a line that are kept, one more than a frame may have.
+pub const MAX_KEPT: usize = 4001;
+
+// No answer is longer: two digits, those of the largest file, and a line feed.
+const MAX_ANSWER: usize = 16387;
+
 // Where reading stands: the place in the block, the characters kept of the line in hand, the length of the session and the place behind
 // the last answer.
 pub struct Progress {
@@ -21,7 +27,7 @@ fn keep(line: &mut [u8], count: usize, c: u8) -> usize
     requires { ⌜ (length (now line) ≡ maxKept) × (count ≤ maxKept) ⌝ }
     ensures { λ r. ⌜ (r ≤ maxKept) × (take r (now (line .exit)) ≡ kept (take count (now (line .entry))) c) ⌝ }
 {
-    if count < 4001 {
+    if count < MAX_KEPT {
         line[count] = c;
         return count + 1;
     }
@@ -86,7 +92,7 @@ pub fn read_on(
     let mut now = p;
     let mut at = p.at;
     while at < block.len() {
-        if out.len() - now.end < 16387 {
+        if out.len() - now.end < MAX_ANSWER {
             return moved(now, at);
         }
         now = next(block[at], line, words, out, now);

@@ -9,15 +9,15 @@ use Rattle.frames.proofs.program.flush.Reads as reads
 use Rattle.frames.proofs.program.flush.Lts as lts
 use Rattle.io.proofs.write_all.Reads as write-all-reads
 
--- src/main.rt:17:34
+-- src/program.rt:33:34
 slice-aggregate-write-all : tie.Need-slice-aggregate-write-all
 slice-aggregate-write-all c = sym (length-take-le _ _ (omega arith))
 
--- src/main.rt:17:5
+-- src/program.rt:33:5
 write-all-requires : tie.Need-write-all-requires
 write-all-requires c κs = search needs
 
--- src/main.rt:12:1
+-- src/program.rt:29:1
 returns : tie.Need-returns
 returns c = search needs
 

@@ -1,5 +1,6 @@
 -- `frames::program::read_all` meets its contract. The measure is the budget of turns. Assumes nothing.
-use Rattle.frames.specs.Blocks.{Holds}
+use Rattle.frames.specs.Loop.{ReadSome}
+use Rattle.frames.proofs.Programs.{some-none, some-more}
 use mathlib.Core.Path.{_≡_}
 use Prim.Native.Nat.{_≤_}
 use lib.ListN.{length}
@@ -15,7 +16,7 @@ use Rattle.io.proofs.large_buffer.Reads as large-buffer-reads
 use Rattle.libc.proofs.read.Reads as read-reads
 
 abbrev Inv-loop : tie.InvT-loop
-Inv-loop line₀ words₀ out₀ block₀ now₀ turns₀ line words out block now turns = (65536 ≡ length block) × Holds line words now × (now .end ≤ length out) × (length out ≡ 65536)
+Inv-loop line₀ words₀ out₀ block₀ now₀ turns₀ line words out block now turns = (65536 ≡ length block) × ReadSome line₀ words₀ out₀ now₀ line words out now × (now₀ .end ≤ length out₀) × (length out ≡ 65536)
 
 abbrev μ-loop : tie.MeasureT-loop
 μ-loop line₀ words₀ out₀ block₀ now₀ turns₀ line words out block now turns = turns
@@ -26,7 +27,7 @@ large-buffer-requires c κs = search needs
 
 -- src/program.rt:66:5
 loop-holds : tie.Need-loop-holds Inv-loop μ-loop
-loop-holds c = search needs
+loop-holds c = (omega (arith, c .large-buffer .ensures), some-none (c .before .before .before .before .pre .0) (c .before .before .before .before .pre .1), c .before .before .before .before .pre .1, c .before .before .before .before .pre .2)
 
 -- src/program.rt:67:44
 slice-aggregate-read : tie.Need-slice-aggregate-read Inv-loop μ-loop
@@ -50,7 +51,7 @@ same-length-3 c = search needs
 
 -- src/program.rt:69:13
 returns : tie.Need-returns Inv-loop μ-loop
-returns c = search needs
+returns c = c .before .before .before .before .before .loop .inv .1
 
 -- src/program.rt:71:32
 slice-aggregate-count : tie.Need-slice-aggregate-count Inv-loop μ-loop
@@ -70,7 +71,7 @@ slice-aggregate-read-block c = search needs
 
 -- src/program.rt:72:9
 read-block-requires : tie.Need-read-block-requires Inv-loop μ-loop
-read-block-requires c κs = search needs
+read-block-requires c κs = (c .before .before .before .before .before .before .before .before .before .before .before .loop .inv .1 .whole .holds, c .before .before .before .before .before .before .before .before .before .before .before .loop .inv .1 .whole .room, c .before .before .before .before .before .before .before .before .before .before .before .loop .inv .3, omega (arith, c .before .before .before .before .count .ensures, c .before .before .before .before .before .before .before .before .before .before .before .loop .inv .0))
 
 -- src/program.rt:73:9
 sub-turns : tie.Need-sub-turns Inv-loop μ-loop
@@ -82,7 +83,7 @@ loop-less c = search needs
 
 -- src/program.rt:66:5
 loop-again : tie.Need-loop-again Inv-loop μ-loop
-loop-again c = search needs
+loop-again c = (omega (arith, c .before .before .before .before .before .before .before .before .before .before .before .before .before .before .before .before .before .before .before .loop .inv .0), some-more (c .before .before .before .before .before .before .before .before .before .before .before .before .before .before .before .before .before .before .before .loop .inv .2) (c .before .before .before .before .before .before .before .before .before .before .before .before .before .before .before .before .before .before .before .loop .inv .1) (c .before .before .before .before .before .before .before .read-block .ensures), c .before .before .before .before .before .before .before .before .before .before .before .before .before .before .before .before .before .before .before .loop .inv .2, omega (arith, c .before .before .before .before .before .before .before .before .before .before .before .before .before .before .before .before .before .before .before .loop .inv .3))
 
 -- src/program.rt:59:1
 same-length-4 : tie.Need-same-length-4 Inv-loop μ-loop
@@ -98,7 +99,7 @@ same-length-6 c = search needs
 
 -- src/program.rt:59:1
 returns-2 : tie.Need-returns-2 Inv-loop μ-loop
-returns-2 c = search needs
+returns-2 c = c .before .loop .inv .1
 
 pub read-all-spec : {M : Type 1} → statement M
 read-all-spec =
