@@ -8,6 +8,7 @@ pub mod ChunkLoops
 pub mod Tallies
 pub mod FirstPass
 pub mod Answers
+pub mod Silence
 pub mod Places
 pub mod Replays
 pub mod PlacingLoop

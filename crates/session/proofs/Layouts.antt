@@ -19,7 +19,7 @@ use Rattle.model.specs.Takes.{word, wordsUsed}
 -- ---- zeros
 
 -- two numbers joined by "or" are 0 only if both are
-or-zero : (a b : ℕ) → eqb (bitOr a b) 0 ≡ eqb 0 b && eqb a 0
+pub or-zero : (a b : ℕ) → eqb (bitOr a b) 0 ≡ eqb 0 b && eqb a 0
 or-zero a b = go (eqb 0 b) (eqb a 0) refl refl
   where
     go : (t u : Bool) → eqb 0 b ≡ t → eqb a 0 ≡ u → eqb (bitOr a b) 0 ≡ t && u

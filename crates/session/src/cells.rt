@@ -1,10 +1,10 @@
 // How many cells a note has.
 ghost use mathlib.Core.Path.{_≡_};
-ghost use Prim.Native.Nat.{_+_, _*_, _≤_, _<_};
+ghost use Prim.Native.Nat.{_*_, _≤_, _<_};
 ghost use lib.ListN.{length};
 ghost use lib.Dec.{leb};
 ghost use Rattle.model.specs.Limits.{maxBeats, maxDelta};
-ghost use Rattle.model.specs.Pieces.{firstBeat, lastBeat, cellsOfNote};
+ghost use Rattle.model.specs.Pieces.{cellsOfNote};
 ghost use Rattle.session.specs.Counting.{oneIf};
 ghost use Rattle.session.specs.Dividing.{reciprocalOf};
 use crate::beats;
@@ -17,31 +17,15 @@ fn one_if_within(a: u32, b: u32) -> u32
     if a <= b { 1 } else { 0 }
 }
 
-// How many cells a note has that lies in the beats first to last: two at each line that it crosses, one at a line where it starts
-// or ends.
-fn cells_between(delta: u32, n: Note, first: u32, last: u32) -> u32
-    requires { ⌜ (0 < delta) × (delta ≤ maxDelta) × (n .start < n .end) × (n .end ≤ maxBeats * delta) × (first ≡ firstBeat delta n) × (last ≡ lastBeat delta n) ⌝ }
-    ensures { λ r. ⌜ r ≡ length (cellsOfNote delta n) ⌝ }
-{
-    let starts = one_if_within(n.start, first * delta);
-    let ends = one_if_within((last + 1) * delta, n.end);
-    starts + 2 * (last - first) + ends
-}
-
-// How many cells a note has.
-pub fn cell_count(delta: u32, n: Note) -> u32
-    requires { ⌜ (0 < delta) × (delta ≤ maxDelta) × (n .start < n .end) × (n .end ≤ maxBeats * delta) ⌝ }
-    ensures { λ r. ⌜ r ≡ length (cellsOfNote delta n) ⌝ }
-{
-    cells_between(delta, n, n.start / delta, (n.end - 1) / delta)
-}
-
-// How many cells a note has, for a pass over many: with the reciprocal of δ it divides by products.
+// How many cells a note has: two at each line that it crosses, one at a line where it starts or ends. With the reciprocal of δ it
+// divides by products.
 pub fn cell_count_by(delta: u32, reciprocal: u64, n: Note) -> u32
     requires { ⌜ (0 < delta) × (delta ≤ maxDelta) × (n .start < n .end) × (n .end ≤ maxBeats * delta) × (reciprocal ≡ reciprocalOf delta) ⌝ }
     ensures { λ r. ⌜ r ≡ length (cellsOfNote delta n) ⌝ }
 {
     let first = beats::beat_of(delta, reciprocal, n.start);
     let last = beats::beat_of(delta, reciprocal, n.end - 1);
-    cells_between(delta, n, first, last)
+    let starts = one_if_within(n.start, first * delta);
+    let ends = one_if_within((last + 1) * delta, n.end);
+    starts + 2 * (last - first) + ends
 }
