@@ -7,8 +7,10 @@ ghost use Rattle.model.specs.Lists.{gather};
 ghost use Rattle.model.specs.Limits.{maxBeats};
 ghost use Rattle.model.specs.Pieces.{cellAt, cellsOfNote};
 ghost use Rattle.model.specs.Takes.{cellWords};
+ghost use Rattle.session.specs.Dividing.{reciprocalOf};
 ghost use Rattle.cuts.specs.Making.{Made, touchedCells, crossedCells, cellsBehind, LinesAsks, NoteAsks, CellsAsks, cellsAt};
 use model::Note;
+use session::beats;
 
 // The cell of a note on a line of a beat.
 fn put_cell(s: &mut [u32], at: usize, n: Note, beat: u32, side: u32, line: u32)
@@ -78,11 +80,11 @@ fn put_lines(s: &mut [u32], at: usize, delta: u32, n: Note, first: u32, next: u3
 }
 
 // The cells of a note. Returns the place behind them.
-fn put_note(s: &mut [u32], at: usize, delta: u32, n: Note) -> usize
-    requires { ⌜ NoteAsks (now s) at delta n ⌝ }
+fn put_note(s: &mut [u32], at: usize, delta: u32, reciprocal: u64, n: Note) -> usize
+    requires { ⌜ NoteAsks (now s) at delta n × (reciprocal ≡ reciprocalOf delta) ⌝ }
     ensures { λ r. ⌜ Made (now (s .entry)) at (cellsOfNote delta n) (now (s .exit)) r ⌝ }
 {
-    let first = n.start / delta;
+    let first = beats::beat_of(delta, reciprocal, n.start);
     let line = first * delta;
     let to = put_first(s, at, n, first, line);
     put_lines(s, to, delta, n, first, line + delta)
@@ -94,11 +96,12 @@ pub fn put_cells(s: &mut [u32], at: usize, count: usize, delta: u32) -> usize
     ensures { λ r. ⌜ Made (now (s .entry)) (at + 4 * count) (cellsAt delta (now (s .entry)) at count) (now (s .exit)) r ⌝ }
 {
     let end = at + 4 * count;
+    let reciprocal = beats::reciprocal(delta);
     let mut from = at;
     let mut to = end;
     while from < end {
         let n = session::notes::note_at(s, from);
-        to = put_note(s, to, delta, n);
+        to = put_note(s, to, delta, reciprocal, n);
         from += 4;
     }
     to
