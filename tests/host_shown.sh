@@ -29,7 +29,7 @@ check 'it fits a screen' [ "$(wc -l <out)" -lt 60 ]
 check 'it fits 80 columns' [ "$(wc -L <out)" -le 80 ]
 mkdir pictures && "$root/$checked/takecut-demo" --pictures pictures
 check 'the pictures are written' [ $? -eq 0 ]
-check 'docs/pictures are those of the demonstration' diff -r pictures "$root/docs/pictures"
+check 'docs/pictures are those of the demonstration' diff -r -x benchmark.svg pictures "$root/docs/pictures"
 "$root/$checked/takecut-demo" --pictures none 2>err
 check 'pictures in a folder that is not there: status 3' [ $? -eq 3 ]
 "$root/$checked/takecut-demo" >/dev/full 2>err
