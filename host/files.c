@@ -120,15 +120,17 @@ static bool replace(const char *path, char *other, mode_t mode, const void *byte
 /* The file beside which the other name stands: the one that a link leads to. */
 static bool replace_beside(const char *path, mode_t mode, const void *bytes, size_t count)
 {
-    static const char ENDING[] = ".XXXXXX";
+    enum { RANDOM = 6 }; /* letters that mkstemp replaces, each an X */
     size_t length = strlen(path);
-    char *other = malloc(length + sizeof ENDING);
+    char *other = malloc(length + 1 + RANDOM + 1);
     if (other == NULL) {
         errno = ENOMEM;
         return false;
     }
     memcpy(other, path, length);
-    memcpy(other + length, ENDING, sizeof ENDING);
+    other[length] = '.';
+    memset(other + length + 1, 'X', RANDOM);
+    other[length + 1 + RANDOM] = '\0';
     bool written = replace(path, other, mode, bytes, count);
     int why = errno;
     free(other);
