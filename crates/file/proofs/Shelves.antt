@@ -8,7 +8,7 @@ use native.Mathlib.Omega.{arith}
 use lib.Dec.{leb, ltb}
 use lib.ListN.{length, drop}
 use borrow.Author.Tests.{leb-true}
-use Rattle.tree.specs.Sort as S
+use Rattle.radix.specs.Sort as S
 use Rattle.order.specs.Events.{laneAt, events, InRange, Follows, Follows.lanes, Follows.ticks, Ordered}
 use Rattle.order.specs.Runs.{last-lane}
 use Rattle.model.specs.Lists.{gather}

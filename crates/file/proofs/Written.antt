@@ -8,7 +8,7 @@ use lib.Dec.{leb}
 use lib.ListN.{length, length-append}
 use borrow.Author.Tests.{le-leb, leb-true}
 use Rattle.words.specs.Splice.{splice, length-splice, splice-append, splice-append-last}
-use Rattle.tree.specs.Sort.{sort}
+use Rattle.radix.specs.Sort.{sort}
 use Rattle.order.specs.Events.{events}
 use Rattle.model.specs.Takes.{readNotes}
 use Rattle.laws.specs.Reading.{length-read}

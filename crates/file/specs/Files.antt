@@ -6,7 +6,7 @@ use Prim.Native.Nat.{ℕ, _+_, _*_, _≤_, _<_}
 use lib.Dec.{leb}
 use lib.ListN.{length}
 use Rattle.words.specs.Splice.{splice}
-use Rattle.tree.specs.Sort.{sort}
+use Rattle.radix.specs.Sort.{sort}
 use Rattle.order.specs.Events.{laneAt, events}
 use Rattle.order.specs.Queues.{Ready}
 use Rattle.model.specs.Limits.{maxBeats, maxDelta, maxWords}

@@ -1,3 +1,2 @@
 -- Numbers in order, and a winner tree of them.
-pub mod Sort
 pub mod Nodes

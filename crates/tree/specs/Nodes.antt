@@ -11,7 +11,7 @@ use lib.Seq.{getD-set-same, getD-set-other}
 use lib.Bits.{bitXor, differ, xor-step, xor-zero-r}
 use lib.Dec.{ltb}
 use borrow.Author.Tests.{lt-ltb, le-ltb}
-use Rattle.tree.specs.Sort.{lt-or-ge}
+use Rattle.radix.specs.Sort.{lt-or-ge}
 
 -- One of two numbers by a test, and the lesser of two.
 abbrev pub pick : Bool → ℕ → ℕ → ℕ
