@@ -4,7 +4,7 @@ ghost use mathlib.Core.Path.{_≡_};
 ghost use Prim.Native.Nat.{ℕ, _+_, _*_, _≤_, _<_};
 ghost use lib.ListN.{length, getD};
 ghost use Rattle.order.specs.Queues.{headKey, Queues, Ready, Took, done};
-ghost use Rattle.order.specs.Events.{laneAt, event, events, Ordered};
+ghost use Rattle.order.specs.Events.{laneAt, event, velocityOf, events, Ordered};
 ghost use Rattle.order.specs.Runs.{Run, Split};
 
 // Above the number of every event: a lane that has no more.
@@ -18,17 +18,23 @@ fn number(tick: u32, kind: u64, lane: u32, velocity: u32) -> u64
     tick as u64 * 524288 + kind * 262144 + lane as u64 * 128 + velocity as u64
 }
 
-// Event e of the notes: note e / 2 starts at an even one and ends at the odd one behind it.
+// The velocity of an event: a start, at an even place, has its note's, an end 64.
+fn velocity_at(odd: usize, velocity: u32) -> u32
+    ensures { λ r. ⌜ r ≡ velocityOf odd velocity ⌝ }
+{
+    if odd == 0 { velocity } else { 64 }
+}
+
+// Event e of the notes: note e / 2 starts at an even one and ends at the odd one behind it. Both read the same words, so that no branch
+// waits for the place.
 fn event_at(s: &[u32], count: usize, e: usize) -> u64
     requires { ⌜ (4 * count ≤ length (now s)) × (e < 2 * count) ⌝ }
     ensures { λ r. ⌜ r ≡ getD (events (now (s .entry)) 0 count) e 0 ⌝ }
 {
-    let i = e / 2;
-    if e % 2 == 0 {
-        number(s[4 * i + 1], 1, s[4 * i], s[4 * i + 3])
-    } else {
-        number(s[4 * i + 2], 0, s[4 * i], 64)
-    }
+    let odd = e % 2;
+    let at = 2 * (e - odd);
+    let velocity = s[at + 3];
+    number(s[at + 1 + odd], 1 - odd as u64, s[at], velocity_at(odd, velocity))
 }
 
 // The first of a lane's events from p up to e.
