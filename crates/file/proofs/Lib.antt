@@ -1,6 +1,7 @@
 -- What the proofs of several functions share.
 pub mod Keys
 pub mod EventLoops
+pub mod WindowLoops
 pub mod Shelves
 pub mod Written
 pub mod Parts

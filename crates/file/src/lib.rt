@@ -6,4 +6,5 @@ pub mod loading;
 pub mod placing;
 pub mod sounding;
 pub mod tracks;
+pub mod windows;
 pub mod writing;

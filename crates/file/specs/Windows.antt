@@ -1,0 +1,27 @@
+-- A window of a track: the bytes of some of its events, one after the other. Assumes nothing.
+use mathlib.Core.List.{List, [], _∷_, _++_}
+use Prim.Native.Nat.{ℕ, _-_, _≤_}
+use lib.ListN.{length, take}
+use Rattle.midi.specs.Numbers.{quantityBytes}
+use Rattle.midi.specs.Writing.{messageBytes}
+use Rattle.track.specs.Keys.{tickOf, eventOf}
+use Rattle.file.specs.Tracks.{Timed}
+
+-- The bytes of events, each behind its time from the event before it; the first comes behind one at tick `last`.
+unfoldable pub windowBytes : ℕ → List ℕ → List ℕ
+windowBytes last [] = []
+windowBytes last (k ∷ ks) = (quantityBytes (tickOf k - last) ++ messageBytes (eventOf k)) ++ windowBytes (tickOf k) ks
+
+-- The tick of the last of them.
+unfoldable pub lastTick : ℕ → List ℕ → ℕ
+lastTick last [] = last
+lastTick last (k ∷ ks) = lastTick (tickOf k) ks
+
+-- The greatest time that four groups of seven bits hold.
+abbrev pub longest : ℕ
+longest = 268435455
+
+-- The first m events of a list come one after the other, behind one at `tick`.
+pub record WindowAsks (a : List ℕ) (m tick : ℕ) : Type 0 where
+  pub inside : m ≤ length a
+  pub timed : Timed longest tick (take m a)
