@@ -2,3 +2,5 @@
 pub mod Queues
 pub mod Events
 pub mod Runs
+pub mod Ranks
+pub mod Windows
