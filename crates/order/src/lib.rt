@@ -2,7 +2,7 @@
 // Each lane's events are in order already, so the next event of all is the least of the lanes' next events: the root of a winner tree.
 ghost use mathlib.Core.Path.{_≡_};
 ghost use Prim.Native.Nat.{ℕ, _+_, _*_, _≤_, _<_};
-ghost use lib.ListN.{length, getD};
+ghost use lib.ListN.{length, getD, take};
 ghost use Rattle.order.specs.Queues.{headKey, Queues, Ready, Took, done};
 ghost use Rattle.order.specs.Events.{laneAt, event, velocityOf, events, Ordered};
 ghost use Rattle.order.specs.Runs.{Run, Split};
@@ -35,6 +35,18 @@ fn event_at(s: &[u32], count: usize, e: usize) -> u64
     let at = 2 * (e - odd);
     let velocity = s[at + 3];
     number(s[at + 1 + odd], 1 - odd as u64, s[at], velocity_at(odd, velocity))
+}
+
+// Writes the events of all notes, each note's start and then its end.
+pub fn put_all(s: &[u32], count: usize, a: &mut [u64])
+    requires { ⌜ (4 * count ≤ length (now s)) × (2 * count ≤ length (now a)) ⌝ }
+    ensures { λ _. ⌜ take (2 * count) (now (a .exit)) ≡ events (now (s .entry)) 0 count ⌝ }
+{
+    let mut e: usize = 0;
+    while e < 2 * count {
+        a[e] = event_at(s, count, e);
+        e += 1;
+    }
 }
 
 // The first of a lane's events from p up to e.
