@@ -4,6 +4,7 @@ pub mod EventLoops
 pub mod WindowLoops
 pub mod Shelves
 pub mod Written
+pub mod Tables
 pub mod Parts
 pub mod ChunkLoops
 pub mod Tallies

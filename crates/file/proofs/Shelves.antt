@@ -141,6 +141,11 @@ module _ {s : List ℕ} {count δ beats : ℕ} (a : FileAsks s count δ beats) w
   unfolding trackBytes
   track-is = ap (eventBytes (beats * δ) 0) events-in-order
 
+  -- no event comes behind the end of track
+  pub ticks-within : (i : ℕ) → i < 2 * count → tickOf (getD (events s 0 count) i 0) ≤ beats * δ
+  ticks-within i h =
+      all-get (λ k. tickOf k ≤ beats * δ) keys i (rw keys-are (all-keys (λ k. tickOf k ≤ beats * δ) (gather eventsOf notes) (all-within δ beats notes fair))) (omega (arith, length-events s 0 count))
+
   pub timed : Timed (beats * δ) 0 (S.sort keys)
   timed = timed-from (beats * δ) 0 (S.sort keys) (omega arith) (S.sort-ascending keys) (least-zero (S.sort keys))
       (rw sorted-is (all-keys (λ k. tickOf k ≤ beats * δ) (inOrder (gather eventsOf notes)) (all-in-order (λ e. tickOf (keyOf e) ≤ beats * δ) (gather eventsOf notes) (all-within δ beats notes fair))))

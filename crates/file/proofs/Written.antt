@@ -16,8 +16,8 @@ use Rattle.midi.specs.Numbers.{word16Bytes, word32Bytes}
 use Rattle.midi.specs.Reading.{MThd, MTrk}
 use Rattle.midi.specs.Writing.{headerBytes, trackBytes, fileBytes}
 use Rattle.midi.proofs.Lengths.{track-most}
-use Rattle.file.specs.Files.{FileAsks, Started, fileOf, countOf, outputOf}
-use Rattle.file.specs.Tracks.{trackLeft, eventsLeft}
+use Rattle.file.specs.Files.{FileAsks, fileOf, countOf, outputOf}
+use Rattle.file.specs.Tracks.{trackLeft}
 use Rattle.file.proofs.Shelves.{track-is}
 
 header-length : (δ n : ℕ) → length (headerBytes δ n) ≡ 22
@@ -56,27 +56,27 @@ module _ {s : List ℕ} {count δ beats : ℕ} (a : FileAsks s count δ beats) w
   pub track-short : length track ≤ 14 * count + 7
   track-short = omega (arith, track-most δ beats (readNotes count s), length-read count s)
 
-  module _ {pos ends t : List ℕ} {n : ℕ} (w : Started s count pos ends t n) where
-    pub left-is : trackLeft (beats * δ) 0 (eventsLeft s count pos ends n) ≡ track
-    left-is = ap (trackLeft (beats * δ) 0) (w .all) ∙ track-is a
+  module _ {ks : List ℕ} (w : ks ≡ sort (events s 0 count)) where
+    pub left-is : trackLeft (beats * δ) 0 ks ≡ track
+    left-is = ap (trackLeft (beats * δ) 0) w ∙ track-is a
 
-    pub left-short : length (trackLeft (beats * δ) 0 (eventsLeft s count pos ends n)) ≤ 14 * count + 7
+    pub left-short : length (trackLeft (beats * δ) 0 ks) ≤ 14 * count + 7
     left-short = omega (arith, track-short, ap length left-is)
 
     -- the events counted tell whether the file fits
-    pub counted-fits : (room : ℕ) {r : ℕ} → r ≡ length (trackLeft (beats * δ) 0 (eventsLeft s count pos ends n)) → leb (22 + r) room ≡ leb (length file) room
+    pub counted-fits : (room : ℕ) {r : ℕ} → r ≡ length (trackLeft (beats * δ) 0 ks) → leb (22 + r) room ≡ leb (length file) room
     counted-fits room e = ap (λ (i : ℕ). leb i room) (omega (arith, file-length, ap length left-is, e))
 
     module _ (out : List ℕ) (f : leb (length file) (length out) ≡ true) where
-      pub left-room : 22 + length (trackLeft (beats * δ) 0 (eventsLeft s count pos ends n)) ≤ length out
+      pub left-room : 22 + length (trackLeft (beats * δ) 0 ks) ≤ length out
       left-room = omega (arith, leb-true (length file) (length out) f, file-length, ap length left-is)
 
-      pub header-room : {mid : List ℕ} → mid ≡ splice out 22 (trackLeft (beats * δ) 0 (eventsLeft s count pos ends n)) → 22 ≤ length mid
-      header-room g = omega (arith, left-room, ap length g, length-splice out 22 (trackLeft (beats * δ) 0 (eventsLeft s count pos ends n)))
+      pub header-room : {mid : List ℕ} → mid ≡ splice out 22 (trackLeft (beats * δ) 0 ks) → 22 ≤ length mid
+      header-room g = omega (arith, left-room, ap length g, length-splice out 22 (trackLeft (beats * δ) 0 ks))
 
       -- the track behind 22 bytes, and then the header, are the file
-      pub file-put : {r : ℕ} {mid end : List ℕ} → r ≡ 22 + length (trackLeft (beats * δ) 0 (eventsLeft s count pos ends n))
-          → mid ≡ splice out 22 (trackLeft (beats * δ) 0 (eventsLeft s count pos ends n)) → end ≡ splice mid 0 (headerBytes δ (r - 22))
+      pub file-put : {r : ℕ} {mid end : List ℕ} → r ≡ 22 + length (trackLeft (beats * δ) 0 ks)
+          → mid ≡ splice out 22 (trackLeft (beats * δ) 0 ks) → end ≡ splice mid 0 (headerBytes δ (r - 22))
           → (r ≡ countOf file out) × (end ≡ outputOf file out)
       unfolding fileBytes
       file-put {r} {mid} {end} e g h =

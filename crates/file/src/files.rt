@@ -73,7 +73,7 @@ fn fits(
 }
 
 // MThd of length 6, format 0, one track, division δ; MTrk with the length of the track.
-fn put_header(out: &mut [u8], delta: u32, size: u32)
+pub fn put_header(out: &mut [u8], delta: u32, size: u32)
     requires { ⌜ (delta ≤ maxDelta) × (22 ≤ length (now out)) ⌝ }
     ensures { λ _. ⌜ now (out .exit) ≡ splice (now (out .entry)) 0 (headerBytes delta size) ⌝ }
 {

@@ -34,11 +34,11 @@ mul-length-left c = omega (arith, end-short (c .before .before .before .before .
 
 -- src/files.rt:64:10
 length-left-requires : tie.Need-length-left-requires
-length-left-requires c κs = let p = c .before .before .before .before .before .before .before .before .before .before .before .before .before .before .before .before .before .before .pre .0 in (track-asks p (c .before .before .before .before .before .before .before .before .before .start .ensures), omega (arith, left-short p (c .before .before .before .before .before .before .before .before .before .start .ensures), p .few))
+length-left-requires c κs = let p = c .before .before .before .before .before .before .before .before .before .before .before .before .before .before .before .before .before .before .pre .0 in (track-asks p (c .before .before .before .before .before .before .before .before .before .start .ensures), omega (arith, left-short p (c .before .before .before .before .before .before .before .before .before .start .ensures .all), p .few))
 
 -- src/files.rt:64:5
 add-result : tie.Need-add-result
-add-result c = omega (arith, left-short (c .before .before .before .before .before .before .before .before .before .before .before .before .before .before .before .before .before .before .before .before .before .before .before .pre .0) (c .before .before .before .before .before .before .before .before .before .before .before .before .before .before .start .ensures), c .before .before .before .before .length-left .ensures, c .before .before .before .before .before .before .before .before .before .before .before .before .before .before .before .before .before .before .before .before .before .before .before .pre .0 .few)
+add-result c = omega (arith, left-short (c .before .before .before .before .before .before .before .before .before .before .before .before .before .before .before .before .before .before .before .before .before .before .before .pre .0) (c .before .before .before .before .before .before .before .before .before .before .before .before .before .before .start .ensures .all), c .before .before .before .before .length-left .ensures, c .before .before .before .before .before .before .before .before .before .before .before .before .before .before .before .before .before .before .before .before .before .before .before .pre .0 .few)
 
 -- src/files.rt:46:1
 same-length : tie.Need-same-length
@@ -54,7 +54,7 @@ same-length-3 c = search needs
 
 -- src/files.rt:46:1
 returns-2 : tie.Need-returns-2
-returns-2 c = counted-fits (c .before .before .before .before .before .before .before .before .before .before .before .before .before .before .before .before .before .before .before .before .before .before .before .pre .0) (c .before .before .before .before .before .before .before .before .before .before .before .before .before .before .start .ensures) _ (c .before .before .before .before .length-left .ensures)
+returns-2 c = counted-fits (c .before .before .before .before .before .before .before .before .before .before .before .before .before .before .before .before .before .before .before .before .before .before .before .pre .0) (c .before .before .before .before .before .before .before .before .before .before .before .before .before .before .start .ensures .all) _ (c .before .before .before .before .length-left .ensures)
 
 pub fits-spec : {M : Type 1} → statement M
 fits-spec =

@@ -74,7 +74,7 @@ slice-aggregate-put-left-3 c = search needs
 
 -- src/files.rt:95:9
 put-left-requires : tie.Need-put-left-requires
-put-left-requires c κs = let p = c .before .before .before .before .before .before .before .before .before .before .before .before .before .before .before .before .before .before .before .before .before .before .pre in (track-asks p (c .before .before .before .before .before .before .before .start .ensures), left-room p (c .before .before .before .before .before .before .before .start .ensures) (c .before .before .before .before .before .before .before .before .before .before .before .before .before .before .before .before .before .before .before .before .before .before .args .out .now) (sym (c .before .before .before .before .before .before .before .before .before .before .before .before .before .before .before .fits2 .ensures) ∙ not-false _ (c .before .before .before .before .before .before .before .before .before .before .before .if1 .left)))
+put-left-requires c κs = let p = c .before .before .before .before .before .before .before .before .before .before .before .before .before .before .before .before .before .before .before .before .before .before .pre in (track-asks p (c .before .before .before .before .before .before .before .start .ensures), left-room p (c .before .before .before .before .before .before .before .start .ensures .all) (c .before .before .before .before .before .before .before .before .before .before .before .before .before .before .before .before .before .before .before .before .before .before .args .out .now) (sym (c .before .before .before .before .before .before .before .before .before .before .before .before .before .before .before .fits2 .ensures) ∙ not-false _ (c .before .before .before .before .before .before .before .before .before .before .before .if1 .left)))
 
 -- src/files.rt:96:29
 sub-put-header : tie.Need-sub-put-header
@@ -82,11 +82,11 @@ sub-put-header c = search needs
 
 -- src/files.rt:96:28
 cast-put-header : tie.Need-cast-put-header
-cast-put-header c = let p = c .before .before .before .before .before .before .before .before .before .before .before .before .before .before .before .before .before .before .before .before .before .before .before .before .before .before .before .before .pre in omega (arith, left-short p (c .before .before .before .before .before .before .before .before .before .before .before .before .before .start .ensures), c .before .before .before .before .before .put-left .ensures .0, p .few)
+cast-put-header c = let p = c .before .before .before .before .before .before .before .before .before .before .before .before .before .before .before .before .before .before .before .before .before .before .before .before .before .before .before .before .pre in omega (arith, left-short p (c .before .before .before .before .before .before .before .before .before .before .before .before .before .start .ensures .all), c .before .before .before .before .before .put-left .ensures .0, p .few)
 
 -- src/files.rt:96:5
 put-header-requires : tie.Need-put-header-requires
-put-header-requires c κs = let p = c .before .before .before .before .before .before .before .before .before .before .before .before .before .before .before .before .before .before .before .before .before .before .before .before .before .before .before .before .pre in (p .delta-low, header-room p (c .before .before .before .before .before .before .before .before .before .before .before .before .before .start .ensures) _ (sym (c .before .before .before .before .before .before .before .before .before .before .before .before .before .before .before .before .before .before .before .before .before .fits2 .ensures) ∙ not-false _ (c .before .before .before .before .before .before .before .before .before .before .before .before .before .before .before .before .before .if1 .left)) (c .before .before .before .before .before .put-left .ensures .1))
+put-header-requires c κs = let p = c .before .before .before .before .before .before .before .before .before .before .before .before .before .before .before .before .before .before .before .before .before .before .before .before .before .before .before .before .pre in (p .delta-low, header-room p (c .before .before .before .before .before .before .before .before .before .before .before .before .before .start .ensures .all) _ (sym (c .before .before .before .before .before .before .before .before .before .before .before .before .before .before .before .before .before .before .before .before .before .fits2 .ensures) ∙ not-false _ (c .before .before .before .before .before .before .before .before .before .before .before .before .before .before .before .before .before .if1 .left)) (c .before .before .before .before .before .put-left .ensures .1))
 
 -- src/files.rt:82:1
 same-length : tie.Need-same-length
@@ -94,7 +94,7 @@ same-length c = search needs
 
 -- src/files.rt:82:1
 returns-2 : tie.Need-returns-2
-returns-2 c = file-put (c .before .before .before .before .before .before .before .before .before .before .before .before .before .before .before .before .before .before .before .before .before .before .before .before .before .before .before .before .before .before .before .pre) (c .before .before .before .before .before .before .before .before .before .before .before .before .before .before .before .before .start .ensures) _ (sym (c .before .before .before .before .before .before .before .before .before .before .before .before .before .before .before .before .before .before .before .before .before .before .before .before .fits2 .ensures) ∙ not-false _ (c .before .before .before .before .before .before .before .before .before .before .before .before .before .before .before .before .before .before .before .before .if1 .left)) (c .before .before .before .before .before .before .before .before .put-left .ensures .0) (c .before .before .before .before .before .before .before .before .put-left .ensures .1) (c .before .before .put-header .ensures)
+returns-2 c = file-put (c .before .before .before .before .before .before .before .before .before .before .before .before .before .before .before .before .before .before .before .before .before .before .before .before .before .before .before .before .before .before .before .pre) (c .before .before .before .before .before .before .before .before .before .before .before .before .before .before .before .before .start .ensures .all) _ (sym (c .before .before .before .before .before .before .before .before .before .before .before .before .before .before .before .before .before .before .before .before .before .before .before .before .fits2 .ensures) ∙ not-false _ (c .before .before .before .before .before .before .before .before .before .before .before .before .before .before .before .before .before .before .before .before .if1 .left)) (c .before .before .before .before .before .before .before .before .put-left .ensures .0) (c .before .before .before .before .before .before .before .before .put-left .ensures .1) (c .before .before .put-header .ensures)
 
 pub put-file-spec : {M : Type 1} → statement M
 put-file-spec =
