@@ -6,10 +6,10 @@ use Prim.Native.Nat.{ℕ, suc, _+_, _*_, _-_, _/_, _%_, _≤_, _<_}
 use native.Mathlib.Nat.{not-suc-le-zero, mul-le-mul-right}
 use native.Mathlib.Omega.{arith}
 use lib.Dec.{leb, ltb}
-use lib.ListN.{length, drop}
+use lib.ListN.{length, getD, drop}
 use borrow.Author.Tests.{leb-true}
 use Rattle.radix.specs.Sort as S
-use Rattle.order.specs.Events.{laneAt, events, InRange, Follows, Follows.lanes, Follows.ticks, Ordered}
+use Rattle.order.specs.Events.{laneAt, events, InRange, Follows, Follows.lanes, Follows.ticks, Ordered, length-events}
 use Rattle.order.specs.Runs.{last-lane}
 use Rattle.model.specs.Lists.{gather}
 use Rattle.model.specs.Limits.{velocityOk}
@@ -17,7 +17,7 @@ use Rattle.model.specs.Takes.{readNotes}
 use Rattle.model.specs.declared.Note.{Note}
 use Rattle.laws.specs.Booleans.{and-right}
 use Rattle.laws.specs.Notes.{Fair, Follow, above, later, fair-notes, ok-pairs}
-use Rattle.laws.specs.Relations.{All, Pairs, all-imp}
+use Rattle.laws.specs.Relations.{All, Pairs, all-imp, all-at}
 use Rattle.midi.specs.Writing.{NoteEvent, noteEvent, startOf, endOf, eventsOf, order, inOrder, eventBytes, trackBytes}
 use Rattle.midi.proofs.Sorting.{all-in-order}
 use Rattle.session.specs.Reading.{noteAt}
@@ -144,7 +144,7 @@ module _ {s : List ℕ} {count δ beats : ℕ} (a : FileAsks s count δ beats) w
   -- no event comes behind the end of track
   pub ticks-within : (i : ℕ) → i < 2 * count → tickOf (getD (events s 0 count) i 0) ≤ beats * δ
   ticks-within i h =
-      all-get (λ k. tickOf k ≤ beats * δ) keys i (rw keys-are (all-keys (λ k. tickOf k ≤ beats * δ) (gather eventsOf notes) (all-within δ beats notes fair))) (omega (arith, length-events s 0 count))
+      all-at (λ k. tickOf k ≤ beats * δ) keys i 0 (rw keys-are (all-keys (λ k. tickOf k ≤ beats * δ) (gather eventsOf notes) (all-within δ beats notes fair))) (omega (arith, length-events s 0 count))
 
   pub timed : Timed (beats * δ) 0 (S.sort keys)
   timed = timed-from (beats * δ) 0 (S.sort keys) (omega arith) (S.sort-ascending keys) (least-zero (S.sort keys))

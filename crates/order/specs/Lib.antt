@@ -5,3 +5,4 @@ pub mod Runs
 pub mod Ranks
 pub mod Windows
 pub mod Whole
+pub mod Taking
