@@ -42,7 +42,14 @@ pub fn put_few(s: &[u32], count: usize, delta: u32, beats: u32, out: &mut [u8]) 
     let mut places = [0u16; 2048];
     let end = beats * delta;
     order::put_all(s, count, &mut a);
-    radix::sort(&mut a, &mut b, 2 * count, &mut places, 0, 2 * (end as u64) + 2);
+    radix::sort(
+        &mut a,
+        &mut b,
+        2 * count,
+        &mut places,
+        0,
+        2 * (end as u64) + 2,
+    );
     if !fits(&a, count, end, out.len()) {
         return 0;
     }

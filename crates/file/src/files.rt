@@ -8,6 +8,7 @@ ghost use Rattle.order.specs.Events.{Ordered};
 ghost use Rattle.model.specs.Limits.{maxDelta};
 ghost use Rattle.midi.specs.Writing.{headerBytes};
 ghost use Rattle.file.specs.Files.{FileAsks, PartAsks, LanesBelow, Started, fileOf, fileIn, countOf, outputOf};
+use crate::few;
 use crate::tracks;
 use model::Header;
 use track::bytes;
@@ -87,7 +88,7 @@ pub fn put_header(out: &mut [u8], delta: u32, size: u32)
 }
 
 // The file of a shelf's notes, if it fits the output. Returns its length, or 0 if it does not fit.
-pub fn put_file(s: &[u32], count: usize, delta: u32, beats: u32, out: &mut [u8]) -> usize
+fn put_many(s: &[u32], count: usize, delta: u32, beats: u32, out: &mut [u8]) -> usize
     requires { ⌜ FileAsks (now s) count delta beats ⌝ }
     ensures { λ r. ⌜ (r ≡ countOf (fileOf (now (s .entry)) count delta beats) (now (out .entry))) × (now (out .exit) ≡ outputOf (fileOf (now (s .entry)) count delta beats) (now (out .entry))) ⌝ }
 {
@@ -113,6 +114,19 @@ pub fn put_file(s: &[u32], count: usize, delta: u32, beats: u32, out: &mut [u8])
     let behind = tracks::put_left(s, count, &mut pos, &ends, &mut t, n, end, out, 22);
     put_header(out, delta, (behind - 22) as u32);
     behind
+}
+
+// The file of a shelf's notes, if it fits the output. Returns its length, or 0 if it does not fit. The events of few notes stand in one table.
+pub fn put_file(s: &[u32], count: usize, delta: u32, beats: u32, out: &mut [u8]) -> usize
+    requires { ⌜ FileAsks (now s) count delta beats ⌝ }
+    ensures { λ r. ⌜ (r ≡ countOf (fileOf (now (s .entry)) count delta beats) (now (out .entry))) × (now (out .exit) ≡ outputOf (fileOf (now (s .entry)) count delta beats) (now (out .entry))) ⌝ }
+{
+    if count <= 1024 {
+        if beats * delta <= 2097151 {
+            return few::put_few(s, count, delta, beats, out);
+        }
+    }
+    put_many(s, count, delta, beats, out)
 }
 
 // The file of a sound shelf's words, if it fits the output. Returns its length, or 0 if it does not fit.

@@ -34,7 +34,12 @@ fn event_at(s: &[u32], count: usize, e: usize) -> u64
     let odd = e % 2;
     let at = 2 * (e - odd);
     let velocity = s[at + 3];
-    number(s[at + 1 + odd], 1 - odd as u64, s[at], velocity_at(odd, velocity))
+    number(
+        s[at + 1 + odd],
+        1 - odd as u64,
+        s[at],
+        velocity_at(odd, velocity),
+    )
 }
 
 // Writes the events of all notes, each note's start and then its end.

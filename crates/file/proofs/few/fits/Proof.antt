@@ -1,3 +1,9 @@
+-- `file::few::fits` meets its contract: by the bound, or by the events counted. Assumes nothing.
+use mathlib.Core.Path.{ap}
+use Prim.Native.Nat.{ℕ}
+use native.Mathlib.Omega.{arith}
+use lib.Dec.{leb}
+use Rattle.file.proofs.Tables.{table-window, table-last, table-length, table-fits, table-count}
 use borrow.Author.Needs.{needs}
 use Rattle.file.proofs.few.fits.Statement.{statement}
 use Rattle.file.proofs.few.fits.Tie as tie
@@ -16,7 +22,7 @@ add-if1 c = search needs
 
 -- src/few.rt:20:9
 returns : tie.Need-returns
-returns c = search needs
+returns c = table-fits (c .before .before .pre) _ (c .if1 .taken)
 
 -- src/few.rt:22:45
 mul-window-length : tie.Need-mul-window-length
@@ -24,11 +30,11 @@ mul-window-length c = search needs
 
 -- src/few.rt:22:9
 window-length-requires : tie.Need-window-length-requires
-window-length-requires c κs = search needs
+window-length-requires c κs = (table-window (c .before .before .pre), omega (arith, table-length (c .before .before .pre), c .before .before .pre .bound, c .before .before .pre .few))
 
 -- src/few.rt:23:39
 sub-group-count : tie.Need-sub-group-count
-sub-group-count c = search needs
+sub-group-count c = omega (arith, table-last (c .before .before .before .before .pre), c .before .window-length .ensures .1)
 
 -- src/few.rt:23:18
 group-count-requires : tie.Need-group-count-requires
@@ -36,19 +42,19 @@ group-count-requires c κs = search needs
 
 -- src/few.rt:23:18
 cast-result : tie.Need-cast-result
-cast-result c = search needs
+cast-result c = omega (arith, table-count (c .before .before .before .before .before .pre) (c .before .before .window-length .ensures .0) (c .before .before .window-length .ensures .1) (c .group-count .ensures), c .before .before .before .before .before .pre .bound, c .before .before .before .before .before .pre .few)
 
 -- src/few.rt:23:5
 add-result : tie.Need-add-result
-add-result c = search needs
+add-result c = omega (arith, table-count (c .before .before .before .before .before .before .pre) (c .before .before .before .window-length .ensures .0) (c .before .before .before .window-length .ensures .1) (c .before .group-count .ensures), c .before .before .before .before .before .before .pre .bound, c .before .before .before .before .before .before .pre .few)
 
 -- src/few.rt:23:5
 add-result-2 : tie.Need-add-result-2
-add-result-2 c = search needs
+add-result-2 c = omega (arith, table-count (c .before .before .before .before .before .before .pre) (c .before .before .before .window-length .ensures .0) (c .before .before .before .window-length .ensures .1) (c .before .group-count .ensures), c .before .before .before .before .before .before .pre .bound, c .before .before .before .before .before .before .pre .few)
 
 -- src/few.rt:15:1
 returns-2 : tie.Need-returns-2
-returns-2 c = search needs
+returns-2 c = ap (λ (i : ℕ). leb i (c .before .before .before .before .before .before .args .room)) (table-count (c .before .before .before .before .before .before .pre) (c .before .before .before .window-length .ensures .0) (c .before .before .before .window-length .ensures .1) (c .before .group-count .ensures))
 
 pub fits-spec : {M : Type 1} → statement M
 fits-spec =

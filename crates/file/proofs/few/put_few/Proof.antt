@@ -1,3 +1,10 @@
+-- `file::few::put_few` meets its contract. Assumes nothing.
+use mathlib.Core.Path.{ap, _∙_}
+use native.Mathlib.Omega.{arith}
+use borrow.Author.Tests.{not-true, not-false}
+use Rattle.radix.specs.Sort.{sort}
+use Rattle.file.proofs.Tables.{sort-asks, table-asks, table-leb}
+use Rattle.file.proofs.Written.{left-short, left-room, header-room, file-put, file-none}
 use borrow.Author.Needs.{needs}
 use Rattle.file.proofs.few.put_few.Statement.{statement}
 use Rattle.file.proofs.few.put_few.Tie as tie
@@ -51,7 +58,7 @@ add-sort c = search needs
 
 -- src/few.rt:45:5
 sort-requires : tie.Need-sort-requires
-sort-requires c κs = search needs
+sort-requires c κs = sort-asks (c .before .before .before .before .before .before .before .before .pre .0) (c .before .before .before .before .before .before .before .before .pre .1) (c .before .before .before .before .put-all .ensures) (search needs) (search needs) (search needs) (c .before .before .before .before .before .before .before .before .pre .2)
 
 -- src/few.rt:46:14
 slice-aggregate-fits : tie.Need-slice-aggregate-fits
@@ -59,11 +66,11 @@ slice-aggregate-fits c = search needs
 
 -- src/few.rt:46:9
 fits-requires : tie.Need-fits-requires
-fits-requires c κs = search needs
+fits-requires c κs = table-asks (c .before .before .before .before .before .before .before .before .before .before .before .before .before .pre .0) (c .before .before .before .before .before .before .before .before .before .before .before .before .before .pre .1) (c .before .before .before .before .sort .ensures ∙ ap sort (c .before .before .before .before .before .before .before .before .before .put-all .ensures)) (search needs)
 
 -- src/few.rt:47:9
 returns : tie.Need-returns
-returns c = search needs
+returns c = file-none (c .before .before .before .before .before .before .before .before .before .before .before .before .before .before .before .pre .0) _ (table-leb (c .before .before .before .before .before .before .before .before .before .before .before .before .before .before .before .pre .0) (c .before .before .before .before .before .before .before .before .before .before .before .before .before .before .before .pre .1) (c .before .before .before .before .before .before .sort .ensures ∙ ap sort (c .before .before .before .before .before .before .before .before .before .before .before .put-all .ensures)) _ (c .before .fits2 .ensures) ∙ not-true _ (c .if1 .taken))
 
 -- src/few.rt:49:33
 slice-aggregate-put-track : tie.Need-slice-aggregate-put-track
@@ -71,7 +78,7 @@ slice-aggregate-put-track c = search needs
 
 -- src/few.rt:49:9
 put-track-requires : tie.Need-put-track-requires
-put-track-requires c κs = search needs
+put-track-requires c κs = (table-asks (c .before .before .before .before .before .before .before .before .before .before .before .before .before .before .before .before .before .pre .0) (c .before .before .before .before .before .before .before .before .before .before .before .before .before .before .before .before .before .pre .1) (c .before .before .before .before .before .before .before .before .sort .ensures ∙ ap sort (c .before .before .before .before .before .before .before .before .before .before .before .before .before .put-all .ensures)) (search needs), left-room (c .before .before .before .before .before .before .before .before .before .before .before .before .before .before .before .before .before .pre .0) (c .before .before .before .before .before .before .before .before .sort .ensures ∙ ap sort (c .before .before .before .before .before .before .before .before .before .before .before .before .before .put-all .ensures)) (c .before .before .before .before .before .before .before .before .before .before .before .before .before .before .before .before .before .args .out .now) (table-leb (c .before .before .before .before .before .before .before .before .before .before .before .before .before .before .before .before .before .pre .0) (c .before .before .before .before .before .before .before .before .before .before .before .before .before .before .before .before .before .pre .1) (c .before .before .before .before .before .before .before .before .sort .ensures ∙ ap sort (c .before .before .before .before .before .before .before .before .before .before .before .before .before .put-all .ensures)) _ (c .before .before .before .fits2 .ensures) ∙ not-false _ (c .before .before .if1 .left)))
 
 -- src/few.rt:50:36
 sub-put-header : tie.Need-sub-put-header
@@ -79,11 +86,11 @@ sub-put-header c = search needs
 
 -- src/few.rt:50:35
 cast-put-header : tie.Need-cast-put-header
-cast-put-header c = search needs
+cast-put-header c = omega (arith, left-short (c .before .before .before .before .before .before .before .before .before .before .before .before .before .before .before .before .before .before .before .before .before .pre .0) (c .before .before .before .before .before .before .before .before .before .before .before .before .sort .ensures ∙ ap sort (c .before .before .before .before .before .before .before .before .before .before .before .before .before .before .before .before .before .put-all .ensures)), c .before .before .before .put-track .ensures .0, c .before .before .before .before .before .before .before .before .before .before .before .before .before .before .before .before .before .before .before .before .before .pre .1)
 
 -- src/few.rt:50:5
 put-header-requires : tie.Need-put-header-requires
-put-header-requires c κs = search needs
+put-header-requires c κs = (c .before .before .before .before .before .before .before .before .before .before .before .before .before .before .before .before .before .before .before .before .before .pre .0 .delta-low, header-room (c .before .before .before .before .before .before .before .before .before .before .before .before .before .before .before .before .before .before .before .before .before .pre .0) (c .before .before .before .before .before .before .before .before .before .before .before .before .sort .ensures ∙ ap sort (c .before .before .before .before .before .before .before .before .before .before .before .before .before .before .before .before .before .put-all .ensures)) _ (table-leb (c .before .before .before .before .before .before .before .before .before .before .before .before .before .before .before .before .before .before .before .before .before .pre .0) (c .before .before .before .before .before .before .before .before .before .before .before .before .before .before .before .before .before .before .before .before .before .pre .1) (c .before .before .before .before .before .before .before .before .before .before .before .before .sort .ensures ∙ ap sort (c .before .before .before .before .before .before .before .before .before .before .before .before .before .before .before .before .before .put-all .ensures)) _ (c .before .before .before .before .before .before .before .fits2 .ensures) ∙ not-false _ (c .before .before .before .before .before .before .if1 .left)) (c .before .before .before .put-track .ensures .1))
 
 -- src/few.rt:36:1
 same-length : tie.Need-same-length
@@ -91,7 +98,7 @@ same-length c = search needs
 
 -- src/few.rt:36:1
 returns-2 : tie.Need-returns-2
-returns-2 c = search needs
+returns-2 c = file-put (c .before .before .before .before .before .before .before .before .before .before .before .before .before .before .before .before .before .before .before .before .before .before .before .before .pre .0) (c .before .before .before .before .before .before .before .before .before .before .before .before .before .before .before .sort .ensures ∙ ap sort (c .before .before .before .before .before .before .before .before .before .before .before .before .before .before .before .before .before .before .before .before .put-all .ensures)) _ (table-leb (c .before .before .before .before .before .before .before .before .before .before .before .before .before .before .before .before .before .before .before .before .before .before .before .before .pre .0) (c .before .before .before .before .before .before .before .before .before .before .before .before .before .before .before .before .before .before .before .before .before .before .before .before .pre .1) (c .before .before .before .before .before .before .before .before .before .before .before .before .before .before .before .sort .ensures ∙ ap sort (c .before .before .before .before .before .before .before .before .before .before .before .before .before .before .before .before .before .before .before .before .put-all .ensures)) _ (c .before .before .before .before .before .before .before .before .before .before .fits2 .ensures) ∙ not-false _ (c .before .before .before .before .before .before .before .before .before .if1 .left)) (c .before .before .before .before .before .before .put-track .ensures .0) (c .before .before .before .before .before .before .put-track .ensures .1) (c .before .before .put-header .ensures)
 
 pub put-few-spec : {M : Type 1} → statement M
 put-few-spec =
