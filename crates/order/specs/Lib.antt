@@ -4,3 +4,4 @@ pub mod Events
 pub mod Runs
 pub mod Ranks
 pub mod Windows
+pub mod Gathering
