@@ -3,6 +3,7 @@ pub mod Queues
 pub mod Events
 pub mod Runs
 pub mod Ranks
-pub mod Windows
 pub mod Whole
+pub mod Windows
+pub mod Gathering
 pub mod Taking
