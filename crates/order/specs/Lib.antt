@@ -2,7 +2,6 @@
 pub mod Queues
 pub mod Events
 pub mod Runs
-pub mod Ranks
 pub mod Whole
 pub mod Windows
 pub mod Gathering

@@ -7,6 +7,7 @@ ghost use Rattle.order.specs.Queues.{headKey, Queues, Ready, Took, done}
 ghost use Rattle.order.specs.Events.{laneAt, event, velocityOf, events, Ordered};
 ghost use Rattle.order.specs.Runs.{Run, Split};
 
+pub mod taking;
 pub mod windows;
 
 // Above the number of every event: a lane that has no more.
