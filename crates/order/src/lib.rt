@@ -1,17 +1,13 @@
 // The events of a take's notes in the order of the file: by tick, ends before starts, then by lane. An event is one number with that order.
-// Each lane's events are in order already, so the next event of all is the least of the lanes' next events: the root of a winner tree.
+// Each lane's events are in order already, so that those of a window of time are the first ones of each lane.
 ghost use mathlib.Core.Path.{_≡_};
 ghost use Prim.Native.Nat.{ℕ, _+_, _*_, _≤_, _<_};
 ghost use lib.ListN.{length, getD, take};
-ghost use Rattle.order.specs.Queues.{headKey, Queues, Ready, Took, done};
 ghost use Rattle.order.specs.Events.{laneAt, event, velocityOf, events, Ordered};
 ghost use Rattle.order.specs.Runs.{Run, Split};
 
 pub mod taking;
 pub mod windows;
-
-// Above the number of every event: a lane that has no more.
-const DONE: u64 = 70368744177664;
 
 // An event's number: kind 0 is an end, 1 a start.
 fn number(tick: u32, kind: u64, lane: u32, velocity: u32) -> u64
@@ -57,14 +53,6 @@ pub fn put_all(s: &[u32], count: usize, a: &mut [u64])
     }
 }
 
-// The first of a lane's events from p up to e.
-fn head(s: &[u32], count: usize, p: usize, e: usize) -> u64
-    requires { ⌜ (4 * count ≤ length (now s)) × (e ≤ 2 * count) ⌝ }
-    ensures { λ r. ⌜ r ≡ headKey (events (now (s .entry)) 0 count) p e ⌝ }
-{
-    if p < e { event_at(s, count, p) } else { DONE }
-}
-
 // The first note from a note on that is not of the lane.
 fn run_end(s: &[u32], count: usize, from: usize, lane: usize) -> usize
     requires { ⌜ (from ≤ count) × (4 * count ≤ length (now s)) ⌝ }
@@ -94,43 +82,4 @@ pub fn runs(s: &[u32], count: usize, n: usize, pos: &mut [u32], ends: &mut [u32]
         i = r;
         l += 1;
     }
-}
-
-// The tree of all lanes' first events; behind it their second events.
-pub fn start(s: &[u32], count: usize, pos: &[u32], ends: &[u32], t: &mut [u64], n: usize)
-    requires { ⌜ (4 * count ≤ length (now s)) × Queues (events (now s) 0 count) (now pos) (now ends) n × (3 * n ≤ length (now t)) ⌝ }
-    ensures { λ _. ⌜ Ready (events (now (s .entry)) 0 count) (now (pos .entry)) (now (ends .entry)) (now (t .exit)) n ⌝ }
-{
-    let mut l: usize = 0;
-    while l < n {
-        let p = pos[l] as usize;
-        let e = ends[l] as usize;
-        t[n + l] = head(s, count, p, e);
-        t[2 * n + l] = head(s, count, p + 1, e);
-        l += 1;
-    }
-    tree::build(t, n);
-}
-
-// Takes the first event of all that are left, k, of which there are some. Returns the next one, or DONE.
-// The lane's second event stands ready for its leaf, so that the tree does not wait for a note to be read.
-pub fn take(
-    s: &[u32],
-    count: usize,
-    pos: &mut [u32],
-    ends: &[u32],
-    t: &mut [u64],
-    n: usize,
-    k: u64,
-) -> u64
-    requires { ⌜ (4 * count ≤ length (now s)) × Ready (events (now s) 0 count) (now pos) (now ends) (now t) n × (k ≡ getD (now t) 1 0) × (k < done) ⌝ }
-    ensures { λ r. ⌜ Took (events (now (s .entry)) 0 count) (now (pos .entry)) (now (pos .exit)) (now (ends .entry)) (now (t .exit)) n k r ⌝ }
-{
-    let lane = (k / 128 % 2048) as usize;
-    let second = t[2 * n + lane];
-    let root = tree::replace(t, n, lane, second);
-    let p = pos[lane] + 1;
-    pos[lane] = p;
-    t[2 * n + lane] = head(s, count, p as usize + 1, ends[lane] as usize);
-    root
 }

@@ -1,2 +1,0 @@
--- Numbers in order, and a winner tree of them.
-pub mod Nodes
