@@ -2,6 +2,7 @@
 pub mod Keys
 pub mod EventLoops
 pub mod WindowLoops
+pub mod TrackLoops
 pub mod Shelves
 pub mod Written
 pub mod Tables

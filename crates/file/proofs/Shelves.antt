@@ -10,7 +10,7 @@ use lib.ListN.{length, getD, drop}
 use borrow.Author.Tests.{leb-true}
 use Rattle.radix.specs.Sort as S
 use Rattle.order.specs.Events.{laneAt, events, InRange, Follows, Follows.lanes, Follows.ticks, Ordered, length-events}
-use Rattle.order.specs.Runs.{last-lane}
+use Rattle.order.specs.Runs.{Split, last-lane, split-length}
 use Rattle.model.specs.Lists.{gather}
 use Rattle.model.specs.Limits.{velocityOk}
 use Rattle.model.specs.Takes.{readNotes}
@@ -22,7 +22,7 @@ use Rattle.midi.specs.Writing.{NoteEvent, noteEvent, startOf, endOf, eventsOf, 
 use Rattle.midi.proofs.Sorting.{all-in-order}
 use Rattle.session.specs.Reading.{noteAt}
 use Rattle.track.specs.Keys.{keyOf, tickOf, eventOf}
-use Rattle.file.specs.Files.{FileAsks, LanesBelow, Started}
+use Rattle.file.specs.Files.{FileAsks, LanesBelow, Room}
 use Rattle.file.specs.Tracks.{trackLeft, eventsLeft, Timed, Timed.over, Timed.next, TrackAsks}
 use Rattle.file.proofs.Keys.{each-note, each-pair, events-keys, all-differ, sort-keys}
 
@@ -93,9 +93,6 @@ lanes-none s count e = record { some = omega arith; most = omega arith; each = �
 pub lanes-last : (s : List ℕ) (count : ℕ) → Ordered s count → 0 < count → LanesBelow s count (laneAt s (count - 1) + 1)
 lanes-last s count w h = record { some = omega arith; most = omega (arith, w .each (count - 1) (omega arith) .lane); each = last-lane w }
 
-pub lanes-more : {s : List ℕ} {count n m : ℕ} → LanesBelow s count n → n ≤ m → m ≤ 2048 → LanesBelow s count m
-lanes-more w h e = record { some = omega (arith, w .some); most = e; each = λ j b. omega (arith, w .each j b) }
-
 -- ---- a shelf's notes
 
 module _ {s : List ℕ} {count δ beats : ℕ} (a : FileAsks s count δ beats) where
@@ -150,5 +147,19 @@ module _ {s : List ℕ} {count δ beats : ℕ} (a : FileAsks s count δ beats) w
   timed = timed-from (beats * δ) 0 (S.sort keys) (omega arith) (S.sort-ascending keys) (least-zero (S.sort keys))
       (rw sorted-is (all-keys (λ k. tickOf k ≤ beats * δ) (inOrder (gather eventsOf notes)) (all-in-order (λ e. tickOf (keyOf e) ≤ beats * δ) (gather eventsOf notes) (all-within δ beats notes fair))))
 
-  pub track-asks : {pos ends t : List ℕ} {n : ℕ} → Started s count pos ends t n → TrackAsks s count pos ends t n (beats * δ)
-  track-asks w = record { inside = a .inside; ready = w .ready; timed = rw (w .all) timed; short = omega (arith, end-short) }
+  pub track-asks : {pos ends to t b places : List ℕ} {n : ℕ} → Split s count pos ends n → LanesBelow s count n → Room pos ends to t b places
+      → TrackAsks s count n pos ends to t b places (beats * δ)
+  track-asks w l r =
+      record {
+        inside = a .inside;
+        few = a .few;
+        queues = w .queues;
+        all = split-length w;
+        timed = rw (w .all) timed;
+        short = omega (arith, end-short);
+        lanes = l .most;
+        room = omega (arith, l .most, r .next);
+        here = r .here;
+        there = r .there;
+        table = r .table;
+      }

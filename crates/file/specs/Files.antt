@@ -6,15 +6,12 @@ use Prim.Native.Nat.{ℕ, _+_, _*_, _≤_, _<_}
 use lib.Dec.{leb}
 use lib.ListN.{length}
 use Rattle.words.specs.Splice.{splice}
-use Rattle.radix.specs.Sort.{sort}
-use Rattle.order.specs.Events.{laneAt, events}
-use Rattle.order.specs.Queues.{Ready}
+use Rattle.order.specs.Events.{laneAt}
 use Rattle.model.specs.Limits.{maxBeats, maxDelta, maxWords}
 use Rattle.model.specs.Soundness.{notesOk, soundShelf}
 use Rattle.model.specs.Takes.{word, readNotes, notesIn}
 use Rattle.model.specs.declared.Header.{Header}
 use Rattle.midi.specs.Writing.{fileBytes}
-use Rattle.file.specs.Tracks.{eventsLeft}
 
 -- The words of a shelf's notes.
 pub record FileAsks (s : List ℕ) (count δ beats : ℕ) : Type 0 where
@@ -38,10 +35,14 @@ pub record LanesBelow (s : List ℕ) (count n : ℕ) : Type 0 where
   pub most : n ≤ 2048
   pub each : (j : ℕ) → j < count → laneAt s j < n
 
--- The lanes' events and their tree, with all events left.
-pub record Started (s : List ℕ) (count : ℕ) (pos ends t : List ℕ) (n : ℕ) : Type 0 where
-  pub ready : Ready (events s 0 count) pos ends t n
-  pub all : eventsLeft s count pos ends n ≡ sort (events s 0 count)
+-- Room for the lanes' places and for the events of a window.
+pub record Room (pos ends to a b places : List ℕ) : Type 0 where
+  pub starts : 2048 ≤ length pos
+  pub limits : 2048 ≤ length ends
+  pub next : 2048 ≤ length to
+  pub here : 2048 ≤ length a
+  pub there : 2048 ≤ length b
+  pub table : 2048 ≤ length places
 
 -- The file of some notes' words, and of a shelf's words; its length if it fits an output, and else 0; and the output with it.
 abbrev pub fileOf : List ℕ → ℕ → ℕ → ℕ → List ℕ

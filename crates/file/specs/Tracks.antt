@@ -3,9 +3,8 @@ use mathlib.Core.Path.{_≡_}
 use mathlib.Core.List.{List, [], _∷_, map}
 use Prim.Native.Nat.{ℕ, _+_, _*_, _≤_, _<_}
 use lib.ListN.{length}
-use Rattle.words.specs.Splice.{splice}
 use Rattle.order.specs.Events.{events}
-use Rattle.order.specs.Queues.{Ready, merged}
+use Rattle.order.specs.Queues.{Queues, merged}
 use Rattle.midi.specs.Writing.{eventBytes}
 use Rattle.track.specs.Keys.{tickOf, eventOf}
 
@@ -22,9 +21,16 @@ pub data Timed (end : ℕ) : ℕ → List ℕ → Type 0 where
 abbrev pub eventsLeft : List ℕ → ℕ → List ℕ → List ℕ → ℕ → List ℕ
 eventsLeft s count pos ends n = merged (events s 0 count) pos ends n
 
--- What writing the events that are left asks: the lanes' tree, and events up to the end of track.
-pub record TrackAsks (s : List ℕ) (count : ℕ) (pos ends t : List ℕ) (n end : ℕ) : Type 0 where
+-- What writing the events of n lanes asks: the lanes' events, all those of the notes, up to the end of track; and room in the tables.
+pub record TrackAsks (s : List ℕ) (count n : ℕ) (pos ends to a b places : List ℕ) (end : ℕ) : Type 0 where
   pub inside : 4 * count ≤ length s
-  pub ready : Ready (events s 0 count) pos ends t n
+  pub few : count < 1048576
+  pub queues : Queues (events s 0 count) pos ends n
+  pub all : length (eventsLeft s count pos ends n) ≡ 2 * count
   pub timed : Timed end 0 (eventsLeft s count pos ends n)
   pub short : end < 268435456
+  pub lanes : n ≤ 2048
+  pub room : n ≤ length to
+  pub here : 2048 ≤ length a
+  pub there : 2048 ≤ length b
+  pub table : 2048 ≤ length places

@@ -4,6 +4,7 @@ pub mod counting;
 pub mod few;
 pub mod files;
 pub mod loading;
+pub mod many;
 pub mod placing;
 pub mod sounding;
 pub mod tracks;

@@ -7,33 +7,33 @@ use Rattle.file.proofs.files.put_file.Tie as tie
 use Rattle.file.proofs.files.put_file.Reads as reads
 use Rattle.file.proofs.files.put_file.Lts as lts
 use Rattle.file.proofs.few.put_few.Reads as put-few-reads
-use Rattle.file.proofs.files.put_many.Reads as put-many-reads
+use Rattle.file.proofs.many.put_many.Reads as put-many-reads
 
--- src/files.rt:125:12
+-- src/files.rt:39:12
 mul-if2 : tie.Need-mul-if2
 mul-if2 c = omega (arith, end-short (c .before .before .before .pre))
 
--- src/files.rt:126:13
+-- src/files.rt:40:13
 put-few-requires : tie.Need-put-few-requires
 put-few-requires c κs = search needs
 
--- src/files.rt:126:13
+-- src/files.rt:40:13
 same-length : tie.Need-same-length
 same-length c = search needs
 
--- src/files.rt:126:13
+-- src/files.rt:40:13
 returns : tie.Need-returns
 returns c = search needs
 
--- src/files.rt:129:5
+-- src/files.rt:43:5
 put-many-requires : tie.Need-put-many-requires
 put-many-requires c κs = search needs
 
--- src/files.rt:120:1
+-- src/files.rt:34:1
 same-length-2 : tie.Need-same-length-2
 same-length-2 c = search needs
 
--- src/files.rt:120:1
+-- src/files.rt:34:1
 returns-2 : tie.Need-returns-2
 returns-2 c = search needs
 
