@@ -144,6 +144,7 @@ fn one_round(round: u64, counts: &mut Counts, seen: &mut Broken) -> Result<(), S
     if round % 50 == 0 {
         loads::cut_off(random, counts)?;
         joins::long_list(random, counts)?;
+        writes::many_notes(random, counts)?;
     }
     Ok(())
 }

@@ -1,5 +1,6 @@
 //! Writes: of takes that lists of calls made, to outputs around the file's
-//! length, of takes at the limits, and of shelves with a damaged word.
+//! length, of takes at the limits, of thousands of notes, and of shelves with a
+//! damaged word.
 
 use crate::inputs;
 use crate::pair::{Counts, Pair};
@@ -80,6 +81,35 @@ pub fn at_the_limits(random: &mut Random, counts: &mut Counts) -> Result<(), Str
     many_lanes(random, 10, beats, &all, counts)?;
     let few = notes::lanes(random, 3);
     many_lanes(random, 32_767, 4_096, &few, counts)
+}
+
+/// Thousands of notes, in some lanes thick and thin by turns: notes follow at
+/// once, or after rests of up to so many ticks.
+pub fn many_notes(random: &mut Random, counts: &mut Counts) -> Result<(), String> {
+    let delta = random.pick(&[40, 480, 32_767]);
+    let last = 4_096 * delta;
+    let lanes = random.pick(&[1, 7, 88, 700]);
+    let mut list = Vec::new();
+    for lane in (0..lanes).map(|lane| lane * (2_048 / lanes)) {
+        let mut tick = random.below(delta);
+        for _ in 0..random.between(1, 2 * 3_000 / lanes) {
+            let rest = random.pick(&[1, 2, 3, 30, 3_000, 100_000]);
+            let (start, end) = (tick + random.below(rest), tick + rest + random.below(delta));
+            if end < last {
+                list.extend([lane, start, end, random.between(1, 127)]);
+                tick = end;
+            }
+        }
+    }
+    let latest = list.chunks(4).map(|note| note[2]).max().unwrap_or(0);
+    let words = inputs::words_used(delta, &list);
+    if words > 1_048_576 {
+        return Ok(());
+    }
+    let mut pair = Pair::new(inputs::words(random, 4 + words as usize));
+    pair.open([delta, 1, 1, words], counts)?;
+    pair.lay(0, latest.div_ceil(delta), &list, counts)?;
+    around(random, &pair, 0, counts)
 }
 
 /// A shelf of any words, and a laid one with a damaged word.
