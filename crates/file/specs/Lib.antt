@@ -1,8 +1,5 @@
--- What load and write mean; the track and the file as the code writes them; what the code reads, counts and lays.
+-- What load and write mean; what the code reads, counts and lays.
 pub mod Calls
-pub mod Tracks
-pub mod Windows
-pub mod Files
 pub mod Chunks
 pub mod Counting
 pub mod CountingSteps

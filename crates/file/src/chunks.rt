@@ -7,7 +7,7 @@ ghost use Rattle.midi.specs.Numbers as N;
 ghost use Rattle.midi.specs.Reading.{headerThere, headerFits};
 ghost use Rattle.midi.proofs.Loops.{trackAfter};
 ghost use Rattle.file.specs.Chunks.{placeOf, chunkPlace, trackPlace};
-use crate::files;
+use track::bytes;
 
 // Where the track is.
 pub enum Found {
@@ -40,7 +40,7 @@ fn header_there(s: &[u8]) -> bool
     if s.len() < 8 {
         return false;
     }
-    if word32(s, 0) != files::MTHD {
+    if word32(s, 0) != bytes::MTHD {
         return false;
     }
     let size = word32(s, 4);
@@ -79,7 +79,7 @@ fn track_from(s: &[u8], from: usize) -> Found
         if s.len() - start < size {
             break 'chunks 11;
         }
-        if word32(s, at) == files::MTRK {
+        if word32(s, at) == bytes::MTRK {
             return Found::Track {
                 at: start,
                 end: start + size,

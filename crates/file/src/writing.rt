@@ -2,7 +2,7 @@
 ghost use mathlib.Core.Path.{_≡_};
 ghost use lib.ListN.{length};
 ghost use Rattle.file.specs.Calls.{writeNumber, writeCount, writeOutput};
-use crate::files;
+use writer::files;
 use session::header;
 use session::header::Entry;
 use session::sound;

@@ -1,10 +1,15 @@
-// A few bytes written into an output.
+// A few bytes written into an output; the names of chunks.
 ghost use mathlib.Core.Path.{_≡_};
 ghost use mathlib.Core.List.{[], _∷_};
 ghost use Prim.Native.Nat.{_+_, _≤_, _<_};
 ghost use lib.ListN.{length};
 ghost use Rattle.words.specs.Splice.{splice};
 ghost use Rattle.midi.specs.Numbers.{word16Bytes, word32Bytes};
+
+// MThd, MTrk: the names of chunks.
+pub const MTHD: u32 = 1297377380;
+
+pub const MTRK: u32 = 1297379947;
 
 // Writes two bytes from place `at` on.
 pub fn put_two(out: &mut [u8], at: usize, a: u8, b: u8)

@@ -1,5 +1,5 @@
 -- `file::writing::take_write` meets its contract. Assumes nothing.
-use Rattle.file.proofs.Parts.{entered-range, entered-below, part-asks, part-sound, part-wrote, write-refused, write-unsound, write-full, write-done}
+use Rattle.file.proofs.Writes.{entered-range, entered-below, part-asks, part-sound, part-wrote, write-refused, write-unsound, write-full, write-done}
 use Rattle.session.proofs.Sources.{place-asks, inside-session, sound-asks, sound-is}
 use Rattle.session.proofs.Entries.{granted-means}
 use Rattle.session.specs.Entering.{entryOf}
@@ -10,7 +10,7 @@ use Rattle.file.proofs.writing.take_write.Statement.{statement}
 use Rattle.file.proofs.writing.take_write.Tie as tie
 use Rattle.file.proofs.writing.take_write.Reads as reads
 use Rattle.file.proofs.writing.take_write.Lts as lts
-use Rattle.file.proofs.files.put_shelf_file.Reads as put-shelf-file-reads
+use Rattle.writer.proofs.files.put_shelf_file.Reads as put-shelf-file-reads
 use Rattle.session.proofs.header.enter.Reads as enter-reads
 use Rattle.session.proofs.header.shelf_at.Reads as shelf-at-reads
 use Rattle.session.proofs.sound.sound.Reads as sound-reads

@@ -1,0 +1,9 @@
+-- What the proofs of several functions share.
+pub mod Keys
+pub mod EventLoops
+pub mod WindowLoops
+pub mod TrackLoops
+pub mod Shelves
+pub mod Written
+pub mod Tables
+pub mod Parts

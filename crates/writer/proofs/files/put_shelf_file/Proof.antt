@@ -1,0 +1,59 @@
+-- `writer::files::put_shelf_file` meets its contract. Assumes nothing.
+use Rattle.writer.proofs.Parts.{counts-inside, notes-few, file-asks, file-is}
+use native.Mathlib.Omega.{arith}
+use borrow.Author.Needs.{needs}
+use Rattle.writer.proofs.files.put_shelf_file.Statement.{statement}
+use Rattle.writer.proofs.files.put_shelf_file.Tie as tie
+use Rattle.writer.proofs.files.put_shelf_file.Reads as reads
+use Rattle.writer.proofs.files.put_shelf_file.Lts as lts
+use Rattle.writer.proofs.files.put_file.Reads as put-file-reads
+
+-- src/files.rt:110:17
+shared-slice-read-count : tie.Need-shared-slice-read-count
+shared-slice-read-count c = omega (arith, counts-inside _ _ (c .before .before .before .pre))
+
+-- src/files.rt:110:17
+cast-count : tie.Need-cast-count
+cast-count c = omega (arith, notes-few _ _ (c .before .before .before .pre))
+
+-- src/files.rt:111:14
+sub-put-file : tie.Need-sub-put-file
+sub-put-file c = omega (arith, counts-inside _ _ (c .before .before .before .pre))
+
+-- src/files.rt:111:14
+part-put-file-start : tie.Need-part-put-file-start
+part-put-file-start c = omega (arith, counts-inside _ _ (c .before .before .before .pre))
+
+-- src/files.rt:111:14
+part-put-file-end : tie.Need-part-put-file-end
+part-put-file-end c = search needs
+
+-- src/files.rt:111:52
+shared-slice-read-put-file : tie.Need-shared-slice-read-put-file
+shared-slice-read-put-file c = omega (arith, counts-inside _ _ (c .before .before .before .before .before .pre))
+
+-- src/files.rt:111:5
+put-file-requires : tie.Need-put-file-requires
+put-file-requires c κs = file-asks _ _ (c .before .before .before .before .before .before .pre)
+
+-- src/files.rt:106:1
+same-length : tie.Need-same-length
+same-length c = search needs
+
+-- src/files.rt:106:1
+returns : tie.Need-returns
+returns c = rw (file-is _ _ (c .before .before .before .before .before .before .before .before .before .pre)) at (c .before .before .put-file .ensures)
+
+pub put-shelf-file-spec : {M : Type 1} → statement M
+put-shelf-file-spec =
+    tie.close
+    (tie.spec
+    shared-slice-read-count
+    cast-count
+    sub-put-file
+    part-put-file-start
+    part-put-file-end
+    shared-slice-read-put-file
+    put-file-requires
+    same-length
+    returns)

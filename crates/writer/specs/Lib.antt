@@ -1,0 +1,4 @@
+-- The track and the file of a shelf's notes as the code writes them.
+pub mod Tracks
+pub mod Windows
+pub mod Files

@@ -1,0 +1,6 @@
+// The file of a shelf's notes, written into an output that it fits.
+pub mod few;
+pub mod files;
+pub mod many;
+pub mod tracks;
+pub mod windows;
