@@ -2,10 +2,10 @@
 ghost use mathlib.Core.Path.{_≡_};
 ghost use lib.ListN.{length};
 ghost use Rattle.file.specs.Calls.{writeNumber, writeCount, writeOutput};
-use writer::files;
 use session::header;
 use session::header::Entry;
 use session::sound;
+use writer::files;
 
 // Writes a shelf's file to an output. Returns the number of the first question answered no, or 0; counts the file's bytes, and 0 for a refusal.
 #[no_mangle]
