@@ -1,0 +1,2 @@
+-- Events spread over an output by their time.
+pub mod Buckets
