@@ -6,4 +6,5 @@ pub mod TrackLoops
 pub mod Shelves
 pub mod Written
 pub mod Tables
+pub mod Besides
 pub mod Parts
