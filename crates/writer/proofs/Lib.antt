@@ -7,3 +7,4 @@ pub mod Shelves
 pub mod Written
 pub mod Tables
 pub mod Parts
+pub mod Storing

@@ -2,3 +2,4 @@
 pub mod Tracks
 pub mod Windows
 pub mod Files
+pub mod Stored

@@ -2,5 +2,6 @@
 pub mod few;
 pub mod files;
 pub mod many;
+pub mod stored;
 pub mod tracks;
 pub mod windows;
