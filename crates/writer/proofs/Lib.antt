@@ -8,3 +8,4 @@ pub mod Written
 pub mod Tables
 pub mod Parts
 pub mod Storing
+pub mod BucketLoops

@@ -3,3 +3,4 @@ pub mod Tracks
 pub mod Windows
 pub mod Files
 pub mod Stored
+pub mod Emitting
