@@ -1,2 +1,3 @@
 -- Events spread over an output by their time.
 pub mod Buckets
+pub mod Shorts
