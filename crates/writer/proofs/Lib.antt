@@ -9,3 +9,4 @@ pub mod Tables
 pub mod Parts
 pub mod Storing
 pub mod BucketLoops
+pub mod BucketEvents
