@@ -1,2 +1,4 @@
 -- Events spread over an output by their time.
 pub mod Buckets
+pub mod Shorts
+pub mod Plans

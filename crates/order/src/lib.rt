@@ -26,7 +26,7 @@ fn velocity_at(odd: usize, velocity: u32) -> u32
 
 // Event e of the notes: note e / 2 starts at an even one and ends at the odd one behind it. Both read the same words, so that no branch
 // waits for the place.
-fn event_at(s: &[u32], count: usize, e: usize) -> u64
+pub fn event_at(s: &[u32], count: usize, e: usize) -> u64
     requires { ⌜ (4 * count ≤ length (now s)) × (e < 2 * count) ⌝ }
     ensures { λ r. ⌜ r ≡ getD (events (now (s .entry)) 0 count) e 0 ⌝ }
 {

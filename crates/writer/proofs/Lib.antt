@@ -6,5 +6,8 @@ pub mod TrackLoops
 pub mod Shelves
 pub mod Written
 pub mod Tables
-pub mod Besides
 pub mod Parts
+pub mod Storing
+pub mod BucketLoops
+pub mod BucketEvents
+pub mod InPlace

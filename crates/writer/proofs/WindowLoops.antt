@@ -7,11 +7,11 @@ use lib.ListN.{length, getD, take, length-append}
 use lib.Seq.{slice, slice-cons, slice-empty}
 use Rattle.words.specs.Splice.{splice, splice-append, length-splice}
 use Rattle.midi.specs.Numbers.{quantityBytes}
-use Rattle.midi.specs.Writing.{messageBytes}
+use Rattle.midi.specs.Writing.{messageBytes, endOfTrack}
 use Rattle.track.specs.Keys.{tickOf, eventOf}
 use Rattle.writer.specs.Tracks.{trackLeft, Timed, Timed.over, Timed.next}
 use Rattle.writer.specs.Windows.{windowBytes, lastTick, longest, WindowAsks}
-use Rattle.writer.proofs.EventLoops.{First, timed-first, timed-within, left-first}
+use Rattle.writer.proofs.EventLoops.{First, timed-first, timed-within, left-first, left-over}
 
 -- ---- a window of a track
 
@@ -23,6 +23,16 @@ window-left end last (k ∷ ks) rest =
     left-first end last k (ks ++ rest)
     ∙ ap (λ (x : List ℕ). (quantityBytes (tickOf k - last) ++ messageBytes (eventOf k)) ++ x) (window-left end (tickOf k) ks rest)
     ∙ sym (append-assoc (quantityBytes (tickOf k - last) ++ messageBytes (eventOf k)) (windowBytes (tickOf k) ks) (trackLeft end (lastTick (tickOf k) ks) rest))
+
+-- the bytes of all events, and the end of track
+pub track-parts : (end : ℕ) (ks : List ℕ) → trackLeft end 0 ks ≡ windowBytes 0 ks ++ (quantityBytes (end - lastTick 0 ks) ++ endOfTrack)
+track-parts end ks =
+    ap (trackLeft end 0) (sym (append-nil ks)) ∙ window-left end 0 ks [] ∙ ap (λ (x : List ℕ). windowBytes 0 ks ++ x) (left-over end (lastTick 0 ks))
+
+pub track-size : (end : ℕ) (ks : List ℕ) → length (trackLeft end 0 ks) ≡ length (windowBytes 0 ks) + (length (quantityBytes (end - lastTick 0 ks)) + 3)
+track-size end ks =
+    ap length (track-parts end ks) ∙ length-append (windowBytes 0 ks) (quantityBytes (end - lastTick 0 ks) ++ endOfTrack)
+    ∙ ap (_+_ (length (windowBytes 0 ks))) (length-append (quantityBytes (end - lastTick 0 ks)) endOfTrack)
 
 pub timed-window : {end last : ℕ} (ks rest : List ℕ) → Timed end last (ks ++ rest) → end ≤ longest → Timed longest last ks
 timed-window {last = last} [] rest t h = over {last = last} (omega (arith, timed-within t))

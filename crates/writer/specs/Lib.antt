@@ -2,3 +2,6 @@
 pub mod Tracks
 pub mod Windows
 pub mod Files
+pub mod Stored
+pub mod Emitting
+pub mod Bucketing

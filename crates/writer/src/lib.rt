@@ -1,6 +1,8 @@
 // The file of a shelf's notes, written into an output that it fits.
+pub mod emitting;
 pub mod few;
 pub mod files;
 pub mod many;
+pub mod stored;
 pub mod tracks;
 pub mod windows;

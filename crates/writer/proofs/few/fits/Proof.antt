@@ -3,7 +3,7 @@ use mathlib.Core.Path.{ap}
 use Prim.Native.Nat.{ℕ}
 use native.Mathlib.Omega.{arith}
 use lib.Dec.{leb}
-use Rattle.writer.proofs.Tables.{table-window, whole-last, whole-length, table-fits, whole-count}
+use Rattle.writer.proofs.Tables.{table-window, table-last, table-length, table-fits, table-count}
 use borrow.Author.Needs.{needs}
 use Rattle.writer.proofs.few.fits.Statement.{statement}
 use Rattle.writer.proofs.few.fits.Tie as tie
@@ -30,11 +30,11 @@ mul-window-length c = search needs
 
 -- src/few.rt:22:9
 window-length-requires : tie.Need-window-length-requires
-window-length-requires c κs = (table-window (c .before .before .pre), omega (arith, whole-length (c .before .before .pre .timed), c .before .before .pre .bound, c .before .before .pre .few))
+window-length-requires c κs = (table-window (c .before .before .pre), omega (arith, table-length (c .before .before .pre), c .before .before .pre .bound, c .before .before .pre .few))
 
 -- src/few.rt:23:39
 sub-group-count : tie.Need-sub-group-count
-sub-group-count c = omega (arith, whole-last (c .before .before .before .before .pre .timed), c .before .window-length .ensures .1)
+sub-group-count c = omega (arith, table-last (c .before .before .before .before .pre), c .before .window-length .ensures .1)
 
 -- src/few.rt:23:18
 group-count-requires : tie.Need-group-count-requires
@@ -42,19 +42,19 @@ group-count-requires c κs = search needs
 
 -- src/few.rt:23:18
 cast-result : tie.Need-cast-result
-cast-result c = omega (arith, whole-count (c .before .before .before .before .before .pre .timed) (c .before .before .window-length .ensures .0) (c .before .before .window-length .ensures .1) (c .group-count .ensures), c .before .before .before .before .before .pre .bound, c .before .before .before .before .before .pre .few)
+cast-result c = omega (arith, table-count (c .before .before .before .before .before .pre) (c .before .before .window-length .ensures .0) (c .before .before .window-length .ensures .1) (c .group-count .ensures), c .before .before .before .before .before .pre .bound, c .before .before .before .before .before .pre .few)
 
 -- src/few.rt:23:5
 add-result : tie.Need-add-result
-add-result c = omega (arith, whole-count (c .before .before .before .before .before .before .pre .timed) (c .before .before .before .window-length .ensures .0) (c .before .before .before .window-length .ensures .1) (c .before .group-count .ensures), c .before .before .before .before .before .before .pre .bound, c .before .before .before .before .before .before .pre .few)
+add-result c = omega (arith, table-count (c .before .before .before .before .before .before .pre) (c .before .before .before .window-length .ensures .0) (c .before .before .before .window-length .ensures .1) (c .before .group-count .ensures), c .before .before .before .before .before .before .pre .bound, c .before .before .before .before .before .before .pre .few)
 
 -- src/few.rt:23:5
 add-result-2 : tie.Need-add-result-2
-add-result-2 c = omega (arith, whole-count (c .before .before .before .before .before .before .pre .timed) (c .before .before .before .window-length .ensures .0) (c .before .before .before .window-length .ensures .1) (c .before .group-count .ensures), c .before .before .before .before .before .before .pre .bound, c .before .before .before .before .before .before .pre .few)
+add-result-2 c = omega (arith, table-count (c .before .before .before .before .before .before .pre) (c .before .before .before .window-length .ensures .0) (c .before .before .before .window-length .ensures .1) (c .before .group-count .ensures), c .before .before .before .before .before .before .pre .bound, c .before .before .before .before .before .before .pre .few)
 
 -- src/few.rt:15:1
 returns-2 : tie.Need-returns-2
-returns-2 c = ap (λ (i : ℕ). leb i (c .before .before .before .before .before .before .args .room)) (whole-count (c .before .before .before .before .before .before .pre .timed) (c .before .before .before .window-length .ensures .0) (c .before .before .before .window-length .ensures .1) (c .before .group-count .ensures))
+returns-2 c = ap (λ (i : ℕ). leb i (c .before .before .before .before .before .before .args .room)) (table-count (c .before .before .before .before .before .before .pre) (c .before .before .before .window-length .ensures .0) (c .before .before .before .window-length .ensures .1) (c .before .group-count .ensures))
 
 pub fits-spec : {M : Type 1} → statement M
 fits-spec =

@@ -1,7 +1,7 @@
 -- `writer::few::put_track` meets its contract. Assumes nothing.
 use mathlib.Core.Path.{refl, _∙_}
 use native.Mathlib.Omega.{arith}
-use Rattle.writer.proofs.Tables.{table-window, whole-last, whole-length, whole-count, whole-end, whole-put}
+use Rattle.writer.proofs.Tables.{table-window, table-last, table-length, table-count, table-end, table-put}
 use borrow.Author.Needs.{needs}
 use Rattle.writer.proofs.few.put_track.Statement.{statement}
 use Rattle.writer.proofs.few.put_track.Tie as tie
@@ -16,15 +16,15 @@ mul-put-window c = search needs
 
 -- src/few.rt:31:9
 put-window-requires : tie.Need-put-window-requires
-put-window-requires c κs = (table-window (c .before .before .before .pre .0), omega (arith, whole-length (c .before .before .before .pre .0 .timed), c .before .before .before .pre .1))
+put-window-requires c κs = (table-window (c .before .before .before .pre .0), omega (arith, table-length (c .before .before .before .pre .0), c .before .before .before .pre .1))
 
 -- src/few.rt:32:39
 sub-put-end : tie.Need-sub-put-end
-sub-put-end c = omega (arith, whole-last (c .before .before .before .before .before .before .before .before .pre .0 .timed), c .before .before .before .before .put-window .ensures .0 .1)
+sub-put-end c = omega (arith, table-last (c .before .before .before .before .before .before .before .before .pre .0), c .before .before .before .before .put-window .ensures .0 .1)
 
 -- src/few.rt:32:5
 put-end-requires : tie.Need-put-end-requires
-put-end-requires c κs = (omega (arith, c .before .before .before .before .before .before .before .before .pre .0 .short), whole-end (c .before .before .before .before .before .before .before .before .pre .0 .timed) _ (c .before .before .before .before .put-window .ensures .0 .0) (c .before .before .before .before .put-window .ensures .0 .1) (c .before .before .before .before .put-window .ensures .1) (c .before .before .before .before .before .before .before .before .pre .1))
+put-end-requires c κs = (omega (arith, c .before .before .before .before .before .before .before .before .pre .0 .short), table-end (c .before .before .before .before .before .before .before .before .pre .0) _ (c .before .before .before .before .put-window .ensures .0 .0) (c .before .before .before .before .put-window .ensures .0 .1) (c .before .before .before .before .put-window .ensures .1) (c .before .before .before .before .before .before .before .before .pre .1))
 
 -- src/few.rt:27:1
 same-length : tie.Need-same-length
@@ -32,7 +32,7 @@ same-length c = search needs
 
 -- src/few.rt:27:1
 returns : tie.Need-returns
-returns c = (c .before .before .put-end .ensures .0 ∙ whole-count (c .before .before .before .before .before .before .before .before .before .before .before .pre .0 .timed) (c .before .before .before .before .before .before .before .put-window .ensures .0 .0) (c .before .before .before .before .before .before .before .put-window .ensures .0 .1) refl, whole-put (c .before .before .before .before .before .before .before .before .before .before .before .pre .0 .timed) _ (c .before .before .before .before .before .before .before .put-window .ensures .0 .0) (c .before .before .before .before .before .before .before .put-window .ensures .0 .1) (c .before .before .before .before .before .before .before .put-window .ensures .1) (c .before .before .put-end .ensures .1))
+returns c = (c .before .before .put-end .ensures .0 ∙ table-count (c .before .before .before .before .before .before .before .before .before .before .before .pre .0) (c .before .before .before .before .before .before .before .put-window .ensures .0 .0) (c .before .before .before .before .before .before .before .put-window .ensures .0 .1) refl, table-put (c .before .before .before .before .before .before .before .before .before .before .before .pre .0) _ (c .before .before .before .before .before .before .before .put-window .ensures .0 .0) (c .before .before .before .before .before .before .before .put-window .ensures .0 .1) (c .before .before .before .before .before .before .before .put-window .ensures .1) (c .before .before .put-end .ensures .1))
 
 pub put-track-spec : {M : Type 1} → statement M
 put-track-spec =
