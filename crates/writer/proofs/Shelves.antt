@@ -9,7 +9,7 @@ use lib.Dec.{leb, ltb}
 use lib.ListN.{length, getD, drop}
 use borrow.Author.Tests.{leb-true}
 use Rattle.radix.specs.Sort as S
-use Rattle.order.specs.Events.{laneAt, events, InRange, Follows, Follows.lanes, Follows.ticks, Ordered, length-events}
+use Rattle.order.specs.Events.{laneAt, endAt, events, InRange, Follows, Follows.lanes, Follows.ticks, Ordered, length-events}
 use Rattle.order.specs.Runs.{Split, last-lane, split-length}
 use Rattle.model.specs.Lists.{gather}
 use Rattle.model.specs.Limits.{velocityOk}
@@ -137,6 +137,10 @@ module _ {s : List ℕ} {count δ beats : ℕ} (a : FileAsks s count δ beats) w
   pub track-is : trackLeft (beats * δ) 0 (S.sort keys) ≡ trackBytes δ beats notes
   unfolding trackBytes
   track-is = ap (eventBytes (beats * δ) 0) events-in-order
+
+  pub ends-within : (i : ℕ) → i < count → endAt s i ≤ beats * δ
+  unfolding noteAt
+  ends-within i h = each-note (Fair δ beats) s count 0 fair i (omega arith) (omega arith) .fits
 
   -- no event comes behind the end of track
   pub ticks-within : (i : ℕ) → i < 2 * count → tickOf (getD (events s 0 count) i 0) ≤ beats * δ

@@ -5,3 +5,4 @@ pub mod Files
 pub mod Stored
 pub mod Emitting
 pub mod Bucketing
+pub mod Wide
