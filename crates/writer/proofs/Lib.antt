@@ -10,3 +10,4 @@ pub mod Parts
 pub mod Storing
 pub mod BucketLoops
 pub mod BucketEvents
+pub mod Sorting

@@ -4,3 +4,4 @@ pub mod Windows
 pub mod Files
 pub mod Stored
 pub mod Emitting
+pub mod Bucketing
