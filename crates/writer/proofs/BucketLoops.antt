@@ -76,15 +76,15 @@ pub events-of-each : (b : ℕ) (out : List ℕ) (from m : ℕ) (ks : List ℕ) �
 events-of-each b out from m ks e h =
     ext-getD 0 ks (eventsFrom b out from m) (e ∙ sym (events-length b out from m)) (λ i l. h i (omega arith) ∙ sym (events-at b out from m i (omega arith)))
 
--- an output whose bytes ahead of some place are the same has the same events there
-events-same : (b : ℕ) (out now : List ℕ) (from m : ℕ) → ((i : ℕ) → i < 22 + 4 * (from + m) → getD now i 0 ≡ getD out i 0) → eventsFrom b now from m ≡ eventsFrom b out from m
+-- an output whose bytes there are the same has the same events there
+pub events-same : (b : ℕ) (out now : List ℕ) (from m : ℕ) → ((i : ℕ) → 22 + 4 * from ≤ i → i < 22 + 4 * (from + m) → getD now i 0 ≡ getD out i 0) → eventsFrom b now from m ≡ eventsFrom b out from m
 events-same b out now from m h =
     events-of-each b out from m (eventsFrom b now from m) (events-length b now from m)
-    (λ i l. events-at b now from m i l ∙ ap (_+_ b) (word-same now out (22 + 4 * (from + i)) (λ j low high. h j (omega arith))))
+    (λ i l. events-at b now from m i l ∙ ap (_+_ b) (word-same now out (22 + 4 * (from + i)) (λ j low high. h j (omega arith) (omega arith))))
 
 -- ---- the events of the first buckets
 
-start-next : (ends : List ℕ) (v : ℕ) → startOf ends (suc v) ≡ getD ends v 0
+pub start-next : (ends : List ℕ) (v : ℕ) → startOf ends (suc v) ≡ getD ends v 0
 unfolding startOf
 start-next ends v = refl
 
@@ -176,7 +176,7 @@ module _ {width : ℕ} {ends starts ticks out₀ : List ℕ} (b : Bounds width e
   own-same : eventsOf width ends out v ≡ own
   own-same =
       events-same (base width v) out₀ out (startOf ends v) (getD ends v 0 - startOf ends v)
-      (λ i l. e .front i (omega (arith, start-next ends v, b .rising v (omega (arith, e .few)))))
+      (λ i k l. e .front i (omega (arith, start-next ends v, b .rising v (omega (arith, e .few)))))
 
   -- the bytes of the bucket stand behind all events of earlier ones
   behind : 22 + 4 * startOf ends v ≤ getD starts v 0

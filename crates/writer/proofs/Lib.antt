@@ -11,3 +11,4 @@ pub mod Storing
 pub mod BucketLoops
 pub mod BucketEvents
 pub mod InPlace
+pub mod Sorting
