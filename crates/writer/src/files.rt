@@ -8,6 +8,7 @@ ghost use Rattle.midi.specs.Writing.{headerBytes};
 ghost use Rattle.writer.specs.Files.{FileAsks, PartAsks, fileOf, fileIn, countOf, outputOf};
 use crate::few;
 use crate::many;
+use crate::wide;
 use model::Header;
 use track::bytes;
 
@@ -25,15 +26,22 @@ pub fn put_header(out: &mut [u8], delta: u32, size: u32)
     bytes::put_word32(out, 18, size);
 }
 
-// The file of a shelf's notes, if it fits the output. Returns its length, or 0 if it does not fit. The events of few notes stand in one table.
+// The file of a shelf's notes, if it fits the output. Returns its length, or 0 if it does not fit. The events of few notes stand in one table;
+// those of many are taken window by window, or where the lanes are very many, bucket by bucket in the output itself.
 pub fn put_file(s: &[u32], count: usize, delta: u32, beats: u32, out: &mut [u8]) -> usize
     requires { ⌜ FileAsks (now s) count delta beats ⌝ }
     ensures { λ r. ⌜ (r ≡ countOf (fileOf (now (s .entry)) count delta beats) (now (out .entry))) × (now (out .exit) ≡ outputOf (fileOf (now (s .entry)) count delta beats) (now (out .entry))) ⌝ }
 {
+    let end = beats * delta;
     if count <= 1024 {
-        if beats * delta <= 2097151 {
+        if end <= 2097151 {
             return few::put_few(s, count, delta, beats, out);
         }
+        return many::put_many(s, count, delta, beats, out);
+    }
+    let width = wide::bucket_ticks(s, count, end, out.len());
+    if 0 < width {
+        return wide::put_wide(s, count, delta, beats, width, out);
     }
     many::put_many(s, count, delta, beats, out)
 }
