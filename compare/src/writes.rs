@@ -83,17 +83,18 @@ pub fn at_the_limits(random: &mut Random, counts: &mut Counts) -> Result<(), Str
     many_lanes(random, 32_767, 4_096, &few, counts)
 }
 
-/// Thousands of notes, in some lanes thick and thin by turns: notes follow at
-/// once, or after rests of up to so many ticks.
+/// Thousands of notes in few lanes or in all, close together, or thick and thin
+/// by turns: notes follow at once, or after rests of up to so many ticks.
 pub fn many_notes(random: &mut Random, counts: &mut Counts) -> Result<(), String> {
     let delta = random.pick(&[40, 480, 32_767]);
     let last = 4_096 * delta;
-    let lanes = random.pick(&[1, 7, 88, 700]);
+    let lanes = random.pick(&[1, 7, 88, 700, 2_048]);
+    let rests: &[u32] = if random.one_in(2) { &[1, 2, 3, 30] } else { &[1, 3, 30, 3_000, 100_000] };
     let mut list = Vec::new();
     for lane in (0..lanes).map(|lane| lane * (2_048 / lanes)) {
         let mut tick = random.below(delta);
-        for _ in 0..random.between(1, 2 * 3_000 / lanes) {
-            let rest = random.pick(&[1, 2, 3, 30, 3_000, 100_000]);
+        for _ in 0..random.between(1, 2 * 4_000 / lanes) {
+            let rest = random.pick(rests);
             let (start, end) = (tick + random.below(rest), tick + rest + random.below(delta));
             if end < last {
                 list.extend([lane, start, end, random.between(1, 127)]);
