@@ -17,22 +17,6 @@ pub enum Found {
     Track { at: usize, end: usize },
 }
 
-// The number of two bytes at a position, high byte first.
-fn word16(s: &[u8], at: usize) -> u32
-    requires { ⌜ at + 2 ≤ length (now s) ⌝ }
-    ensures { λ r. ⌜ (r ≡ N.word16 (now (s .entry)) at) × (r < 65536) ⌝ }
-{
-    s[at] as u32 * 256 + s[at + 1] as u32
-}
-
-// The number of four bytes.
-fn word32(s: &[u8], at: usize) -> u32
-    requires { ⌜ at + 4 ≤ length (now s) ⌝ }
-    ensures { λ r. ⌜ r ≡ N.word32 (now (s .entry)) at ⌝ }
-{
-    word16(s, at) * 65536 + word16(s, at + 2)
-}
-
 // Question 9: is MThd there, its length 6 or more and all inside the file?
 fn header_there(s: &[u8]) -> bool
     ensures { λ r. ⌜ r ≡ headerThere (now (s .entry)) ⌝ }
@@ -40,10 +24,10 @@ fn header_there(s: &[u8]) -> bool
     if s.len() < 8 {
         return false;
     }
-    if word32(s, 0) != bytes::MTHD {
+    if bytes::word32(s, 0) != bytes::MTHD {
         return false;
     }
-    let size = word32(s, 4);
+    let size = bytes::word32(s, 4);
     if size < 6 {
         return false;
     }
@@ -55,13 +39,13 @@ fn header_fits(delta: u32, s: &[u8]) -> bool
     requires { ⌜ 14 ≤ length (now s) ⌝ }
     ensures { λ r. ⌜ r ≡ headerFits delta (now (s .entry)) ⌝ }
 {
-    if word16(s, 8) != 0 {
+    if bytes::word16(s, 8) != 0 {
         return false;
     }
-    if word16(s, 10) != 1 {
+    if bytes::word16(s, 10) != 1 {
         return false;
     }
-    word16(s, 12) == delta
+    bytes::word16(s, 12) == delta
 }
 
 // Question 11: the first MTrk from a position on, reached through complete chunks.
@@ -75,11 +59,11 @@ fn track_from(s: &[u8], from: usize) -> Found
             break 'chunks 11;
         }
         let start = at + 8;
-        let size = word32(s, at + 4) as usize;
+        let size = bytes::word32(s, at + 4) as usize;
         if s.len() - start < size {
             break 'chunks 11;
         }
-        if word32(s, at) == bytes::MTRK {
+        if bytes::word32(s, at) == bytes::MTRK {
             return Found::Track {
                 at: start,
                 end: start + size,
@@ -100,5 +84,5 @@ pub fn track_in(delta: u32, s: &[u8]) -> Found
     if !header_fits(delta, s) {
         return Found::Refused(10);
     }
-    track_from(s, 8 + word32(s, 4) as usize)
+    track_from(s, 8 + bytes::word32(s, 4) as usize)
 }

@@ -1,9 +1,10 @@
-// A few bytes written into an output; the names of chunks.
+// Numbers of a few bytes, read and written; the names of chunks.
 ghost use mathlib.Core.Path.{_≡_};
 ghost use mathlib.Core.List.{[], _∷_};
 ghost use Prim.Native.Nat.{_+_, _≤_, _<_};
 ghost use lib.ListN.{length};
 ghost use Rattle.words.specs.Splice.{splice};
+ghost use Rattle.midi.specs.Numbers as N;
 ghost use Rattle.midi.specs.Numbers.{word16Bytes, word32Bytes};
 
 // MThd, MTrk: the names of chunks.
@@ -59,4 +60,20 @@ pub fn put_word32(out: &mut [u8], at: usize, n: u32)
         (n / 256 % 256) as u8,
         (n % 256) as u8,
     );
+}
+
+// The number of two bytes at a position, high byte first.
+pub fn word16(s: &[u8], at: usize) -> u32
+    requires { ⌜ at + 2 ≤ length (now s) ⌝ }
+    ensures { λ r. ⌜ (r ≡ N.word16 (now (s .entry)) at) × (r < 65536) ⌝ }
+{
+    s[at] as u32 * 256 + s[at + 1] as u32
+}
+
+// The number of four bytes.
+pub fn word32(s: &[u8], at: usize) -> u32
+    requires { ⌜ at + 4 ≤ length (now s) ⌝ }
+    ensures { λ r. ⌜ r ≡ N.word32 (now (s .entry)) at ⌝ }
+{
+    word16(s, at) * 65536 + word16(s, at + 2)
 }

@@ -6,7 +6,7 @@ use Rattle.file.proofs.chunks.header_fits.Statement.{statement}
 use Rattle.file.proofs.chunks.header_fits.Tie as tie
 use Rattle.file.proofs.chunks.header_fits.Reads as reads
 use Rattle.file.proofs.chunks.header_fits.Lts as lts
-use Rattle.file.proofs.chunks.word16.Reads as word16-reads
+use Rattle.track.proofs.bytes.word16.Reads as word16-reads
 
 -- src/chunks.rt:61:8
 word16-requires : tie.Need-word16-requires

@@ -7,7 +7,7 @@ use Rattle.file.proofs.chunks.header_there.Statement.{statement}
 use Rattle.file.proofs.chunks.header_there.Tie as tie
 use Rattle.file.proofs.chunks.header_there.Reads as reads
 use Rattle.file.proofs.chunks.header_there.Lts as lts
-use Rattle.file.proofs.chunks.word32.Reads as word32-reads
+use Rattle.track.proofs.bytes.word32.Reads as word32-reads
 
 -- src/chunks.rt:44:9
 returns : tie.Need-returns

@@ -11,7 +11,7 @@ use Rattle.file.proofs.chunks.track_from.Statement.{statement}
 use Rattle.file.proofs.chunks.track_from.Tie as tie
 use Rattle.file.proofs.chunks.track_from.Reads as reads
 use Rattle.file.proofs.chunks.track_from.Lts as lts
-use Rattle.file.proofs.chunks.word32.Reads as word32-reads
+use Rattle.track.proofs.bytes.word32.Reads as word32-reads
 
 abbrev Inv-chunks : tie.InvT-chunks
 Inv-chunks s from at₀ at = (at ≤ length s) × (trackAfter s from ≡ trackAfter s at)

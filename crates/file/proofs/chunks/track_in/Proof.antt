@@ -11,7 +11,7 @@ use Rattle.file.proofs.chunks.track_in.Lts as lts
 use Rattle.file.proofs.chunks.header_fits.Reads as header-fits-reads
 use Rattle.file.proofs.chunks.header_there.Reads as header-there-reads
 use Rattle.file.proofs.chunks.track_from.Reads as track-from-reads
-use Rattle.file.proofs.chunks.word32.Reads as word32-reads
+use Rattle.track.proofs.bytes.word32.Reads as word32-reads
 
 -- src/chunks.rt:100:9
 header-there-requires : tie.Need-header-there-requires

@@ -1,12 +1,12 @@
--- `file::chunks::word16` meets its contract. Assumes nothing.
+-- `track::bytes::word16` meets its contract. Assumes nothing.
 use Prim.Native.Nat.{ℕ, suc, _≤_, _<_, _+_, _*_, _-_}
 use mathlib.Core.Path.{_≡_, refl, sym, ap, _∙_}
 use native.Mathlib.Omega.{arith}
 use borrow.Author.Needs.{needs}
-use Rattle.file.proofs.chunks.word16.Statement.{statement}
-use Rattle.file.proofs.chunks.word16.Tie as tie
-use Rattle.file.proofs.chunks.word16.Reads as reads
-use Rattle.file.proofs.chunks.word16.Lts as lts
+use Rattle.track.proofs.bytes.word16.Statement.{statement}
+use Rattle.track.proofs.bytes.word16.Tie as tie
+use Rattle.track.proofs.bytes.word16.Reads as reads
+use Rattle.track.proofs.bytes.word16.Lts as lts
 
 -- src/chunks.rt:28:5
 shared-slice-read-result : tie.Need-shared-slice-read-result
