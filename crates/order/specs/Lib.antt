@@ -5,4 +5,5 @@ pub mod Runs
 pub mod Whole
 pub mod Windows
 pub mod Gathering
+pub mod Blocks
 pub mod Taking
