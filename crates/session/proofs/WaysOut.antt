@@ -6,7 +6,22 @@ use native.Mathlib.Nat.{mul-le-mul, div-mul-le-self, suc-mul}
 use native.Mathlib.Numerals.{add-one}
 use native.Mathlib.Omega.{arith}
 use lib.Dec.{leb, ltb, eqb}
-use borrow.Author.Tests.{eq-eqb, ne-eqb, lt-ltb, le-ltb, ltb-true, ltb-false, eqb-true, eqb-false, not-true, not-false}
+use borrow.Author.Tests.{
+  eq-eqb,
+  ne-eqb,
+  lt-ltb,
+  le-ltb,
+  lt-leb,
+  le-leb,
+  ltb-true,
+  ltb-false,
+  leb-true,
+  leb-false,
+  eqb-true,
+  eqb-false,
+  not-true,
+  not-false,
+}
 use Rattle.model.specs.Binding.{standsAlone, meet, bound, noneAlone, fills, startOf, endOf}
 use Rattle.model.specs.Pieces.{firstBeat, insideAt, inside}
 use Rattle.model.specs.Soundness.{cellInRange, memoryWithin, hasTicks, cellBefore, filled, partners}
@@ -31,6 +46,15 @@ module _ (l b m e : ℕ) (b-word : b ≤ 4294967295) (e-word : e ≤ 4294967295)
       go false f true g true h = let k : l ≡ m = eqb-true l m g in let j : b < e = ltb-true b e h in lt-ltb x y (omega arith)
       go false f true g false h = let k : l ≡ m = eqb-true l m g in let j : e ≤ b = ltb-false b e h in le-ltb x y (omega arith)
       go false f false g r h = let k : m ≤ l = ltb-false l m f in let j : l ≡ m → ⊥ = eqb-false l m g in le-ltb x y (omega arith)
+
+  pub one-number-within : leb x y ≡ (ltb l m || eqb l m && leb b e)
+  one-number-within = go (ltb l m) refl (eqb l m) refl (leb b e) refl
+    where
+      go : (p : Bool) → ltb l m ≡ p → (q : Bool) → eqb l m ≡ q → (r : Bool) → leb b e ≡ r → leb x y ≡ (p || q && r)
+      go true f q g r h = let k : l < m = ltb-true l m f in le-leb x y (omega arith)
+      go false f true g true h = let k : l ≡ m = eqb-true l m g in let j : b ≤ e = leb-true b e h in le-leb x y (omega arith)
+      go false f true g false h = let k : l ≡ m = eqb-true l m g in let j : e < b = leb-false b e h in lt-leb x y (omega arith)
+      go false f false g r h = let k : m ≤ l = ltb-false l m f in let j : l ≡ m → ⊥ = eqb-false l m g in lt-leb x y (omega arith)
 
 -- ---- a test of two or three parts
 

@@ -15,7 +15,7 @@ use model::Note;
 fn is_earlier(lane: u32, beat: u32, c: Cell) -> bool
     ensures { λ r. ⌜ r ≡ earlier lane beat c ⌝ }
 {
-    rules::beat_order(c.lane, c.beat) < rules::beat_order(lane, beat)
+    rules::lane_order(c.lane, c.beat) < rules::lane_order(lane, beat)
 }
 
 // The search for the first cell that does not lie before the beat of the lane, among the last `left` cells up to place `end`.

@@ -117,8 +117,8 @@ fn one_beat_ok(delta: u32, c: Cell, d: Cell) -> bool
 fn neighbours_ok(delta: u32, c: Cell, d: Cell) -> bool
     ensures { λ r. ⌜ r ≡ neighbours delta c d ⌝ }
 {
-    let c_at = rules::beat_order(c.lane, c.beat);
-    let d_at = rules::beat_order(d.lane, d.beat);
+    let c_at = rules::lane_order(c.lane, c.beat);
+    let d_at = rules::lane_order(d.lane, d.beat);
     if c_at < d_at {
         return two_beats_ok(delta, c, d);
     }

@@ -6,6 +6,7 @@ ghost use Rattle.model.specs.Limits.{maxBeats, maxDelta, velocityOk};
 ghost use Rattle.model.specs.Soundness.{noteOk, follows};
 ghost use Rattle.session.specs.Checking.{beforeAll};
 ghost use Rattle.session.specs.Reading.{noteAt, cellAt};
+use crate::rules;
 use model::Cell;
 use model::Header;
 use model::Note;
@@ -65,17 +66,11 @@ pub fn note_ok(delta: u32, beats: u32, n: Note) -> bool
     velocity_ok(n.lane, n.velocity)
 }
 
-// May n stand behind m: in a later lane, or in m's lane from m's end on?
+// May n stand behind m: in a later lane, or in m's lane from m's end on? One comparison, since where a lane ends can't be foreseen.
 pub fn note_follows(m: Note, n: Note) -> bool
     ensures { λ r. ⌜ r ≡ follows m n ⌝ }
 {
-    if m.lane < n.lane {
-        return true;
-    }
-    if m.lane == n.lane {
-        return m.end <= n.start;
-    }
-    false
+    rules::lane_order(m.lane, m.end) <= rules::lane_order(n.lane, n.start)
 }
 
 // A note that every note may stand behind.

@@ -9,11 +9,11 @@ use model::Cell;
 use model::Header;
 use model::Note;
 
-// Where a beat of a lane comes in the order of lanes, then beats: a word is below 2^32, so the two are one number.
-pub fn beat_order(lane: u32, beat: u32) -> u64
-    ensures { λ r. ⌜ r ≡ lane * 4294967296 + beat ⌝ }
+// Where a beat, or a tick, of a lane comes in the order of lanes, then beats or ticks: a word is below 2^32, so the two are one number.
+pub fn lane_order(lane: u32, word: u32) -> u64
+    ensures { λ r. ⌜ r ≡ lane * 4294967296 + word ⌝ }
 {
-    (lane as u64) * 4294967296 + (beat as u64)
+    (lane as u64) * 4294967296 + (word as u64)
 }
 
 // Does the cell stand alone?
