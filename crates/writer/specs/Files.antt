@@ -35,7 +35,7 @@ pub record LanesBelow (s : List ℕ) (count n : ℕ) : Type 0 where
   pub most : n ≤ 2048
   pub each : (j : ℕ) → j < count → laneAt s j < n
 
--- Room for the lanes' places and for the events of a window.
+-- Room for the places of the lanes or the buckets, and for the events of a window or a bucket.
 pub record Room (pos ends to a b places : List ℕ) : Type 0 where
   pub starts : 2048 ≤ length pos
   pub limits : 2048 ≤ length ends

@@ -26,24 +26,64 @@ pub fn put_header(out: &mut [u8], delta: u32, size: u32)
     bytes::put_word32(out, 18, size);
 }
 
-// The file of a shelf's notes, if it fits the output. Returns its length, or 0 if it does not fit. The events of few notes stand in one table;
-// those of many are taken window by window, or where the lanes are very many, bucket by bucket in the output itself.
+// The file of a shelf's notes, if it fits the output. Returns its length, or 0 if it does not fit. The events are taken window by window, or where
+// the lanes are very many, bucket by bucket in the output itself. Both ways are lent the same tables, so that these stand on the stack once.
+fn put_long_file(s: &[u32], count: usize, delta: u32, beats: u32, out: &mut [u8]) -> usize
+    requires { ⌜ FileAsks (now s) count delta beats ⌝ }
+    ensures { λ r. ⌜ (r ≡ countOf (fileOf (now (s .entry)) count delta beats) (now (out .entry))) × (now (out .exit) ≡ outputOf (fileOf (now (s .entry)) count delta beats) (now (out .entry))) ⌝ }
+{
+    let mut pos = [0u32; 2048];
+    let mut ends = [0u32; 2048];
+    let mut to = [0u32; 2048];
+    let mut a = [0u64; 2048];
+    let mut b = [0u64; 2048];
+    let mut places = [0u16; 2048];
+    let width = wide::bucket_ticks(s, count, beats * delta, out.len());
+    if 0 < width {
+        if buckets::plan(s, count, width, &mut ends) {
+            return wide::put_wide(
+                s,
+                count,
+                delta,
+                beats,
+                width,
+                &mut pos,
+                &mut ends,
+                &mut to,
+                &mut a,
+                &mut b,
+                &mut places,
+                out,
+            );
+        }
+    }
+    many::put_many(
+        s,
+        count,
+        delta,
+        beats,
+        &mut pos,
+        &mut ends,
+        &mut to,
+        &mut a,
+        &mut b,
+        &mut places,
+        out,
+    )
+}
+
+// The file of a shelf's notes, if it fits the output. Returns its length, or 0 if it does not fit. The events of few notes stand in one table,
+// which is less to clear than the tables for many.
 pub fn put_file(s: &[u32], count: usize, delta: u32, beats: u32, out: &mut [u8]) -> usize
     requires { ⌜ FileAsks (now s) count delta beats ⌝ }
     ensures { λ r. ⌜ (r ≡ countOf (fileOf (now (s .entry)) count delta beats) (now (out .entry))) × (now (out .exit) ≡ outputOf (fileOf (now (s .entry)) count delta beats) (now (out .entry))) ⌝ }
 {
-    let end = beats * delta;
     if count <= 1024 {
-        if end <= 2097151 {
+        if beats * delta <= 2097151 {
             return few::put_few(s, count, delta, beats, out);
         }
-        return many::put_many(s, count, delta, beats, out);
     }
-    let width = wide::bucket_ticks(s, count, end, out.len());
-    if 0 < width {
-        return wide::put_wide(s, count, delta, beats, width, out);
-    }
-    many::put_many(s, count, delta, beats, out)
+    put_long_file(s, count, delta, beats, out)
 }
 
 // The file of a sound shelf's words, if it fits the output. Returns its length, or 0 if it does not fit.

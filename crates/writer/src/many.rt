@@ -46,48 +46,30 @@ fn fits(
 }
 
 // The file of a shelf's notes, if it fits the output. Returns its length, or 0 if it does not fit.
-pub fn put_many(s: &[u32], count: usize, delta: u32, beats: u32, out: &mut [u8]) -> usize
-    requires { ⌜ FileAsks (now s) count delta beats ⌝ }
+pub fn put_many(
+    s: &[u32],
+    count: usize,
+    delta: u32,
+    beats: u32,
+    pos: &mut [u32],
+    ends: &mut [u32],
+    to: &mut [u32],
+    a: &mut [u64],
+    b: &mut [u64],
+    places: &mut [u16],
+    out: &mut [u8],
+) -> usize
+    requires { ⌜ FileAsks (now s) count delta beats × Room (now pos) (now ends) (now to) (now a) (now b) (now places) ⌝ }
     ensures { λ r. ⌜ (r ≡ countOf (fileOf (now (s .entry)) count delta beats) (now (out .entry))) × (now (out .exit) ≡ outputOf (fileOf (now (s .entry)) count delta beats) (now (out .entry))) ⌝ }
 {
-    let mut pos = [0u32; 2048];
-    let mut ends = [0u32; 2048];
-    let mut to = [0u32; 2048];
-    let mut a = [0u64; 2048];
-    let mut b = [0u64; 2048];
-    let mut places = [0u16; 2048];
     let n = lanes_up_to(s, count);
-    if !fits(
-        s,
-        count,
-        delta,
-        beats,
-        n,
-        &mut pos,
-        &mut ends,
-        &mut to,
-        &mut a,
-        &mut b,
-        &mut places,
-        out.len(),
-    ) {
+    let room = out.len();
+    if !fits(s, count, delta, beats, n, pos, ends, to, a, b, places, room) {
         return 0;
     }
-    order::runs(s, count, n, &mut pos, &mut ends);
-    let behind = tracks::put_left(
-        s,
-        count,
-        n,
-        &mut pos,
-        &ends,
-        &mut to,
-        &mut a,
-        &mut b,
-        &mut places,
-        beats * delta,
-        out,
-        22,
-    );
+    order::runs(s, count, n, pos, ends);
+    let end = beats * delta;
+    let behind = tracks::put_left(s, count, n, pos, ends, to, a, b, places, end, out, 22);
     files::put_header(out, delta, (behind - 22) as u32);
     behind
 }
