@@ -45,6 +45,7 @@ step reference cargo_results cargo test --offline --manifest-path reference/Carg
 step beat-archive status_only rt staticlib beat
 step file-archive status_only rt staticlib file
 step library last_line bash tests/library.sh
+step stack last_line bash tests/stack.sh
 step host last_line bash tests/host.sh
 step comparison status_only cargo run --offline --quiet --release --manifest-path compare/Cargo.toml --bin compare
 step frames status_only cargo run --offline --quiet --release --manifest-path compare/Cargo.toml --bin frames
