@@ -5,7 +5,7 @@ ghost use lib.ListN.{length};
 ghost use lib.Dec.{leb};
 ghost use Rattle.model.specs.Limits.{maxBeats, maxDelta};
 ghost use Rattle.model.specs.Pieces.{cellsOfNote};
-ghost use Rattle.session.specs.Counting.{oneIf};
+ghost use Rattle.session.specs.Counting.{oneIf, lineSides};
 ghost use Rattle.session.specs.Dividing.{reciprocalOf};
 use crate::beats;
 use model::Note;
@@ -15,6 +15,15 @@ fn one_if_within(a: u32, b: u32) -> u32
     ensures { λ r. ⌜ (r ≡ oneIf (leb a b)) × (r ≤ 1) ⌝ }
 {
     if a <= b { 1 } else { 0 }
+}
+
+// The sides of beat lines before a tick: two for each whole beat, one more inside a beat.
+pub fn line_sides(delta: u32, reciprocal: u64, tick: u32) -> u32
+    requires { ⌜ (0 < delta) × (delta ≤ maxDelta) × (tick ≤ maxBeats * delta) × (reciprocal ≡ reciprocalOf delta) ⌝ }
+    ensures { λ r. ⌜ r ≡ lineSides delta tick ⌝ }
+{
+    let beat = beats::beat_of(delta, reciprocal, tick);
+    2 * beat + (beat * delta < tick) as u32
 }
 
 // How many cells a note has: two at each line that it crosses, one at a line where it starts or ends. With the reciprocal of δ it
