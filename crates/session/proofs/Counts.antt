@@ -13,7 +13,6 @@ use Rattle.model.specs.Limits.{maxBeats, maxDelta}
 use Rattle.model.specs.Pieces.{firstBeat, lastBeat, cellsInBeat, cellsOfNote, cellAt}
 use Rattle.model.specs.declared.Note.{Note}
 use Rattle.session.specs.Counting.{oneIf, lineSides}
-use Rattle.session.specs.Dividing.{reciprocalOf}
 
 -- where a note's first and last beats lie
 pub record Beats (δ : ℕ) (n : Note) : Type 0 where
@@ -100,14 +99,6 @@ count-note δ n h =
     let many : suc (lastBeat δ n) - firstBeat δ n ≡ suc d = omega (arith, i .order) in
     let last : suc (lastBeat δ n) ≡ lastBeat δ n + 1 = omega arith in
     rw (many, ← last) (sym (count-from i d (firstBeat δ n) (omega arith) (omega (arith, i .order))))
-
--- the first and the last beat as numbers in hand: their lines, and the count
-module _ (δ : ℕ) (n : Note) {m first last : ℕ} (h : (0 < δ) × (δ ≤ maxDelta) × (n .start < n .end) × (n .end ≤ maxBeats * δ) × (m ≡ reciprocalOf δ)) (f : first ≡ firstBeat δ n) (l : last ≡ lastBeat δ n) where
-  pub in-hand : Beats δ n × (first ≡ firstBeat δ n) × (last ≡ lastBeat δ n) × (first * δ ≡ firstBeat δ n * δ) × (last * δ ≡ lastBeat δ n * δ)
-  in-hand = (note-beats δ n (h .0, h .1, h .2, h .3), f, l, ap (λ (b : ℕ). b * δ) f, ap (λ (b : ℕ). b * δ) l)
-
-  pub count-between : oneIf (leb (n .start) (first * δ)) + 2 * (last - first) + oneIf (leb ((last + 1) * δ) (n .end)) ≡ length (cellsOfNote δ n)
-  count-between = rw (f, l) (count-note δ n (h .0, h .1, h .2, h .3))
 
 -- ---- the sides of lines before a tick
 
