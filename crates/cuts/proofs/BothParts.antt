@@ -1,10 +1,10 @@
 -- What both halves have of a note and of a cell, by the way that the code goes. Assumes nothing.
-use mathlib.Core.Path.{_≡_, sym, ap, _∙_}
+use mathlib.Core.Path.{_≡_, refl, sym, ap, _∙_}
 use mathlib.Core.Bool.{Bool, true, false, cond}
 use mathlib.Core.List.{List, [], _∷_}
 use Prim.Native.Nat.{ℕ, _+_, _-_, _*_, _≤_, _<_}
 use native.Mathlib.Omega.{arith}
-use borrow.Author.Tests.{le-leb, lt-leb, le-ltb, lt-ltb}
+use borrow.Author.Tests.{le-leb, lt-leb, le-ltb, lt-ltb, ltb-true, ltb-false}
 use lib.Dec.{ltb}
 use lib.ListN.{length}
 use Rattle.words.specs.Apart.{Apart}
@@ -21,9 +21,10 @@ use Rattle.session.specs.Reading.{lastCells}
 use Rattle.session.proofs.Frames.{length-notes}
 use Rattle.cuts.specs.declared.halves.Half.{Half}
 use Rattle.cuts.specs.declared.halves.Ends.{Ends}
+use Rattle.cuts.specs.declared.halves.CellPlace.{CellPlace}
 use Rattle.cuts.specs.declared.halves.Cursors.{Cursors}
 use Rattle.cuts.specs.Halving.{passed, acrossParts, Noted}
-use Rattle.cuts.specs.BothHalves.{placesOf, partFrom, leftCell, rightCell, BothPut, PartsAsks, PartsPut}
+use Rattle.cuts.specs.BothHalves.{placesOf, partFrom, cellPlace, leftCell, rightCell, BothPut, PartsAsks, PartsPut}
 use Rattle.cuts.proofs.Parts.{none-before, none-behind, some-across, part-before-left, part-before-right, part-behind-left, part-behind-right, part-across}
 use Rattle.cuts.proofs.Passes.{cells-agree}
 use Rattle.cuts.proofs.Skips.{goes-on}
@@ -193,10 +194,10 @@ module _ (k : ℕ) (c : Cell) where
     unfolding rightCell
     not-right = rw (lt-leb k (c .beat) i)
 
-    pub kept-room : (to len : ℕ) → to + 6 * length (leftCell k c) ≤ len → to + 6 ≤ len
+    kept-room : (to len : ℕ) → to + 6 * length (leftCell k c) ≤ len → to + 6 ≤ len
     kept-room to len r = rw kept at r
 
-    pub kept-put : (s : List ℕ) (at : Ends) {t : List ℕ} → t ≡ splice s (at .left) (cellWords c)
+    kept-put : (s : List ℕ) (at : Ends) {t : List ℕ} → t ≡ splice s (at .left) (cellWords c)
         → BothPut s at (gather cellWords (leftCell k c)) (gather cellWords (rightCell k c)) t (record { left = at .left + 6; right = at .right })
     kept-put s at e = left-put s at (cellWords c) (ap (gather cellWords) kept) (ap (gather cellWords) not-right) e
 
@@ -209,9 +210,29 @@ module _ (k : ℕ) (c : Cell) where
     unfolding leftCell
     not-left = rw (le-ltb (c .beat) k i)
 
-    pub moved-room : (to len : ℕ) → to + 6 * length (rightCell k c) ≤ len → to + 6 ≤ len
+    moved-room : (to len : ℕ) → to + 6 * length (rightCell k c) ≤ len → to + 6 ≤ len
     moved-room to len r = rw moved at r
 
-    pub moved-put : (s : List ℕ) (at : Ends) {t : List ℕ} → t ≡ splice s (at .right) (cellWords (cellTo (c .beat - k) c))
+    moved-put : (s : List ℕ) (at : Ends) {t : List ℕ} → t ≡ splice s (at .right) (cellWords (cellTo (c .beat - k) c))
         → BothPut s at (gather cellWords (leftCell k c)) (gather cellWords (rightCell k c)) t (record { left = at .left; right = at .right + 6 })
     moved-put s at e = right-put s at (cellWords (cellTo (c .beat - k) c)) (ap (gather cellWords) not-left) (ap (gather cellWords) moved) e
+
+  -- by the place that is chosen
+  module _ (at : Ends) {p : CellPlace} (e : p ≡ cellPlace k (c .beat) at) where
+    pub place-room : (len : ℕ) → at .left + 6 * length (leftCell k c) ≤ len → at .right + 6 * length (rightCell k c) ≤ len → p .to + 6 ≤ len
+    unfolding cellPlace
+    place-room len l r = go (ltb (c .beat) k) refl
+      where
+        go : (b : Bool) → ltb (c .beat) k ≡ b → p .to + 6 ≤ len
+        go true f = rw (e, f) (kept-room (ltb-true (c .beat) k f) (at .left) len l)
+        go false f = rw (e, f) (moved-room (ltb-false (c .beat) k f) (at .right) len r)
+
+    pub place-put : (s : List ℕ) {t : List ℕ} → t ≡ splice s (p .to) (cellWords (cellTo (p .beat) c))
+        → BothPut s at (gather cellWords (leftCell k c)) (gather cellWords (rightCell k c)) t (record { left = p .left; right = p .right })
+    unfolding cellPlace
+    place-put s {t} g = go (ltb (c .beat) k) refl
+      where
+        go : (b : Bool) → ltb (c .beat) k ≡ b
+            → BothPut s at (gather cellWords (leftCell k c)) (gather cellWords (rightCell k c)) t (record { left = p .left; right = p .right })
+        go true f = rw (e, f) (kept-put (ltb-true (c .beat) k f) s at (rw (e, f) at g))
+        go false f = rw (e, f) (moved-put (ltb-false (c .beat) k f) s at (rw (e, f) at g))

@@ -1,6 +1,6 @@
 -- Both halves of a split in one pass: what each function is asked, and what it leaves. Assumes nothing.
 use mathlib.Core.Path.{_≡_}
-use mathlib.Core.Bool.{true, false}
+use mathlib.Core.Bool.{true, false, cond}
 use mathlib.Core.List.{List, []}
 use Prim.Native.Nat.{ℕ, _+_, _-_, _*_, _≤_}
 use lib.Dec.{leb, ltb}
@@ -17,6 +17,7 @@ use Rattle.session.specs.Reading.{lastCells}
 use Rattle.cuts.specs.declared.halves.Half.{Half}
 use Rattle.cuts.specs.declared.halves.Contents.{Contents}
 use Rattle.cuts.specs.declared.halves.Ends.{Ends}
+use Rattle.cuts.specs.declared.halves.CellPlace.{CellPlace}
 use Rattle.cuts.specs.declared.halves.Cursors.{Cursors}
 use Rattle.cuts.specs.Halving.{HalfOk, HalfAsks, passed, notePart, notesLeft}
 
@@ -94,6 +95,16 @@ leftCell k c = consIf (ltb (c .beat) k) c []
 
 unfoldable pub rightCell : ℕ → Cell → List Cell
 rightCell k c = consIf (leb k (c .beat)) (cellTo (c .beat - k) c) []
+
+-- Where a cell goes, its beat there, and the places behind each half's cells then.
+unfoldable pub cellPlace : ℕ → ℕ → Ends → CellPlace
+cellPlace k own at =
+    cond (ltb own k) (record { to = at .left; beat = own; left = at .left + 6; right = at .right })
+    (record { to = at .right; beat = own - k; left = at .left; right = at .right + 6 })
+
+-- Behind a cell at such a place there still is a place.
+abbrev pub maxPlace : ℕ
+maxPlace = 18446744073709551609
 
 -- Each half's cells of the last cells.
 unfoldable pub leftCells : ℕ → List ℕ → Contents → ℕ → List Cell

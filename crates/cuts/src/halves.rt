@@ -14,7 +14,7 @@ ghost use Rattle.laws.specs.Cutting.{firstCell};
 ghost use Rattle.session.specs.Framing.{framed};
 ghost use Rattle.session.specs.Reading.{lastCells};
 ghost use Rattle.cuts.specs.Halving.{leftHalf, rightHalf, halfOf, lineCell, crossedNote, acrossParts, maxSession, contentsBy, contentsAt, notesLeft, Noted};
-ghost use Rattle.cuts.specs.BothHalves.{leftCell, rightCell, leftCells, rightCells, BothPut, PartsAsks, PartsPut, NotesAsks, CellsAsks, CountsAsks, BothAsks};
+ghost use Rattle.cuts.specs.BothHalves.{maxPlace, cellPlace, leftCell, rightCell, leftCells, rightCells, BothPut, PartsAsks, PartsPut, NotesAsks, CellsAsks, CountsAsks, BothAsks};
 use model::Cell;
 use model::Header;
 use model::Note;
@@ -291,22 +291,46 @@ fn put_cell_in(s: &mut [u32], to: usize, beat: u32, c: Cell)
     words::put_six(s, to, c.lane, beat, c.side, c.before, c.after, c.velocity);
 }
 
+// Where a cell of a take goes, its beat there, and the places behind each half's cells then.
+pub struct CellPlace {
+    pub to: usize,
+    pub beat: u32,
+    pub left: usize,
+    pub right: usize,
+}
+
+// A cell of beat `own` goes to its half, counted from the half's first beat. Only the place is chosen here, so that the write behind it needs
+// no branch.
+fn cell_place(beat: u32, own: u32, at: Ends) -> CellPlace
+    requires { ⌜ (at .left ≤ maxPlace) × (at .right ≤ maxPlace) ⌝ }
+    ensures { λ r. ⌜ r ≡ cellPlace beat own at ⌝ }
+{
+    if own < beat {
+        return CellPlace {
+            to: at.left,
+            beat: own,
+            left: at.left + 6,
+            right: at.right,
+        };
+    }
+    CellPlace {
+        to: at.right,
+        beat: own - beat,
+        left: at.left,
+        right: at.right + 6,
+    }
+}
+
 // A cell, written to its half, counted from the half's first beat. Returns the places behind each half's cells.
 fn put_cell(s: &mut [u32], beat: u32, c: Cell, at: Ends) -> Ends
     requires { ⌜ (at .left + 6 * length (leftCell beat c) ≤ length (now s)) × (at .right + 6 * length (rightCell beat c) ≤ length (now s)) ⌝ }
     ensures { λ r. ⌜ BothPut (now (s .entry)) at (gather cellWords (leftCell beat c)) (gather cellWords (rightCell beat c)) (now (s .exit)) r ⌝ }
 {
-    if c.beat < beat {
-        put_cell_in(s, at.left, c.beat, c);
-        return Ends {
-            left: at.left + 6,
-            right: at.right,
-        };
-    }
-    put_cell_in(s, at.right, c.beat - beat, c);
+    let place = cell_place(beat, c.beat, at);
+    put_cell_in(s, place.to, place.beat, c);
     Ends {
-        left: at.left,
-        right: at.right + 6,
+        left: place.left,
+        right: place.right,
     }
 }
 
