@@ -17,7 +17,7 @@ use Rattle.model.specs.Questions.{fits}
 use Rattle.model.specs.Takes.{Take, notesIn, notesOf, takeIn, word, wordsUsed}
 use Rattle.model.proofs.Headers.{InRange}
 use Rattle.model.specs.Soundness.{filled, soundShelf}
-use Rattle.model.specs.Pieces.{cellsOfNote, firstBeat, inside, lastBeat}
+use Rattle.model.specs.Pieces.{cellsOfNote, inside}
 use Rattle.model.specs.declared.Cell.{Cell}
 use Rattle.model.specs.declared.Header.{Header}
 use Rattle.model.specs.declared.Note.{Note}
@@ -33,35 +33,31 @@ use Rattle.laws.specs.Reading.{length-cells, length-read}
 use Rattle.laws.specs.Notes.{Fair, fair-notes}
 use Rattle.laws.specs.Relations.{All, all-keep}
 use Rattle.laws.specs.Rules.{Pair, Pieced, double, alone, meet-open, open-free, pair-close, pair-fills, pair-open, single, span, step-fill, step-single, stop}
-use Rattle.session.specs.Counting.{oneIf}
-use Rattle.session.proofs.Counts.{Beats, count-note, note-beats}
+use Rattle.session.specs.Counting.{lineSides}
+use Rattle.session.proofs.Counts.{sides-between}
 
--- ---- the lines up to a tick
-
--- Two for each line up to a tick, and one if the tick lies inside a beat: a note has as many cells as this grows from its start to its end.
-unfoldable pub upTo : ℕ → ℕ → ℕ
-upTo δ x = 2 * (x / δ) + oneIf (ltb (x / δ * δ) x)
+-- ---- the sides of lines before a tick
 
 module _ (δ : ℕ) (z : 0 < δ) where
-  at-line : (k : ℕ) → upTo δ (k * δ) ≡ 2 * k
-  unfolding upTo
+  at-line : (k : ℕ) → lineSides δ (k * δ) ≡ 2 * k
+  unfolding lineSides
   at-line k = rw (mul-div-left k z, le-ltb (k * δ) (k * δ) (omega arith)) (omega arith)
 
   quotient : (k x : ℕ) → k * δ ≤ x → x < suc k * δ → x / δ ≡ k
   quotient k x a b = let c : k ≤ x / δ = le-div-iff-mul-le z .1 a in let d : x / δ < suc k = div-lt-iff-lt-mul z .1 b in omega arith
 
-  in-beat : (k x : ℕ) → k * δ < x → x < suc k * δ → upTo δ x ≡ 2 * k + 1
-  unfolding upTo
+  in-beat : (k x : ℕ) → k * δ < x → x < suc k * δ → lineSides δ x ≡ 2 * k + 1
+  unfolding lineSides
   in-beat k x a b = rw (quotient k x (omega arith) b, lt-ltb (k * δ) x a) (omega arith)
 
   -- at a line or behind it, and up to the next
-  from-line : (k x : ℕ) → k * δ ≤ x → x ≤ suc k * δ → 2 * k ≤ upTo δ x
-  unfolding upTo
+  from-line : (k x : ℕ) → k * δ ≤ x → x ≤ suc k * δ → 2 * k ≤ lineSides δ x
+  unfolding lineSides
   from-line k x a b = let c : k ≤ x / δ = le-div-iff-mul-le z .1 a in omega arith
 
   -- what a note grows by
   abbrev pub growth : Note → ℕ
-  growth n = upTo δ (n .end) - upTo δ (n .start)
+  growth n = lineSides δ (n .end) - lineSides δ (n .start)
 
   unfoldable pub total : List Note → ℕ
   total [] = 0
@@ -70,37 +66,37 @@ module _ (δ : ℕ) (z : 0 < δ) where
   -- ---- pieces
 
   -- one cell's piece grows by one at most
-  open-one : (c : Cell) → opening c ≡ true → fills δ c ≡ false → upTo δ (endOf δ c) - upTo δ (startOf δ c) ≤ 1
+  open-one : (c : Cell) → opening c ≡ true → fills δ c ≡ false → lineSides δ (endOf δ c) - lineSides δ (startOf δ c) ≤ 1
   unfolding fills endOf startOf
   open-one c o f =
       let a : c .after < δ = leb-false δ (c .after) (rw o at f) in
       rw o (go (ltb 0 (c .after)) refl a)
     where
-      go : (t : Bool) → ltb 0 (c .after) ≡ t → c .after < δ → upTo δ (c .beat * δ + c .after) - upTo δ (c .beat * δ) ≤ 1
+      go : (t : Bool) → ltb 0 (c .after) ≡ t → c .after < δ → lineSides δ (c .beat * δ + c .after) - lineSides δ (c .beat * δ) ≤ 1
       go true e a = let b = ltb-true 0 (c .after) e in omega (arith, at-line (c .beat), in-beat (c .beat) (c .beat * δ + c .after) (omega arith) (omega (arith, suc-mul (c .beat) δ)))
       go false e a = let b = ltb-false 0 (c .after) e in let d : c .beat * δ + c .after ≡ c .beat * δ = omega arith in rw d (omega arith)
 
-  close-one : (c : Cell) → opening c ≡ false → filled δ c ≡ false → upTo δ (endOf δ c) - upTo δ (startOf δ c) ≤ 1
+  close-one : (c : Cell) → opening c ≡ false → filled δ c ≡ false → lineSides δ (endOf δ c) - lineSides δ (startOf δ c) ≤ 1
   unfolding filled endOf startOf
   close-one c o f =
       let a : c .before < δ = leb-false δ (c .before) (rw o at f) in
       rw o (go (ltb 0 (c .before)) refl a)
     where
-      go : (t : Bool) → ltb 0 (c .before) ≡ t → c .before < δ → upTo δ (suc (c .beat) * δ) - upTo δ (suc (c .beat) * δ - c .before) ≤ 1
+      go : (t : Bool) → ltb 0 (c .before) ≡ t → c .before < δ → lineSides δ (suc (c .beat) * δ) - lineSides δ (suc (c .beat) * δ - c .before) ≤ 1
       go true e a =
           let b = ltb-true 0 (c .before) e in
           omega (arith, at-line (suc (c .beat)), in-beat (c .beat) (suc (c .beat) * δ - c .before) (omega (arith, suc-mul (c .beat) δ)) (omega (arith, suc-mul (c .beat) δ)))
       go false e a = let b = ltb-false 0 (c .before) e in let d : suc (c .beat) * δ - c .before ≡ suc (c .beat) * δ = omega arith in rw d (omega arith)
 
-  own-one : (c : Cell) → fills δ c ≡ false → filled δ c ≡ false → upTo δ (endOf δ c) - upTo δ (startOf δ c) ≤ 1
+  own-one : (c : Cell) → fills δ c ≡ false → filled δ c ≡ false → lineSides δ (endOf δ c) - lineSides δ (startOf δ c) ≤ 1
   own-one c f g = go (opening c) refl
     where
-      go : (o : Bool) → opening c ≡ o → upTo δ (endOf δ c) - upTo δ (startOf δ c) ≤ 1
+      go : (o : Bool) → opening c ≡ o → lineSides δ (endOf δ c) - lineSides δ (startOf δ c) ≤ 1
       go true e = open-one c e f
       go false e = close-one c e g
 
   -- a piece that fills its beat grows by two
-  pair-two : (c d : Cell) → Pair δ c d → upTo δ (endOf δ d) - upTo δ (startOf δ c) ≤ 2
+  pair-two : (c d : Cell) → Pair δ c d → lineSides δ (endOf δ d) - lineSides δ (startOf δ c) ≤ 2
   unfolding endOf startOf
   pair-two c d q =
       rw (pair-open δ c d q, pair-close δ c d q, q .beat-same) (omega (arith, at-line (c .beat), at-line (suc (c .beat))))
@@ -135,7 +131,7 @@ module _ (δ : ℕ) (z : 0 < δ) where
       go false j e ns b h = omega arith
       go true false e ns b h = omega (arith, a, b)
       go true true e [] b h = absurd (h refl)
-      go true true e (m ∷ ms) b h = omega (arith, a, b, ap (upTo δ) (h refl))
+      go true true e (m ∷ ms) b h = omega (arith, a, b, ap (lineSides δ) (h refl))
 
 -- ---- the notes that cells give
 
@@ -193,27 +189,7 @@ module _ (δ beats : ℕ) (z : 0 < δ) (few : δ ≤ maxDelta) (short : beats �
   note-cells : (n : Note) → Fair δ beats n → length (cellsOfNote δ n) ≡ growth δ z n
   note-cells n f =
       let top : n .end ≤ maxBeats * δ = omega (arith, f .fits, mul-le-mul-right δ short) in
-      let h : (0 < δ) × (δ ≤ maxDelta) × (n .start < n .end) × (n .end ≤ maxBeats * δ) = (z, few, f .order, top) in
-      let i = note-beats δ n h in
-      sym (count-note δ n h) ∙ go (leb (n .start) (firstBeat δ n * δ)) (leb ((lastBeat δ n + 1) * δ) (n .end)) refl refl i
-    where
-      start-is : (a : Bool) → leb (n .start) (firstBeat δ n * δ) ≡ a → Beats δ n → upTo δ (n .start) + oneIf a ≡ 2 * firstBeat δ n + 1
-      start-is true e i =
-          let x : n .start ≡ firstBeat δ n * δ = omega (arith, leb-true (n .start) (firstBeat δ n * δ) e, i .low) in
-          omega (arith, ap (upTo δ) x, at-line δ z (firstBeat δ n))
-      start-is false e i =
-          omega (arith, in-beat δ z (firstBeat δ n) (n .start) (leb-false (n .start) (firstBeat δ n * δ) e) (omega (arith, i .high, suc-mul (firstBeat δ n) δ)))
-
-      end-is : (b : Bool) → leb ((lastBeat δ n + 1) * δ) (n .end) ≡ b → Beats δ n → upTo δ (n .end) ≡ 2 * lastBeat δ n + 1 + oneIf b
-      end-is true e i =
-          let x : n .end ≡ (lastBeat δ n + 1) * δ = omega (arith, leb-true ((lastBeat δ n + 1) * δ) (n .end) e, i .last-high, i .last-next) in
-          omega (arith, ap (upTo δ) x, at-line δ z (lastBeat δ n + 1))
-      end-is false e i =
-          omega (arith, in-beat δ z (lastBeat δ n) (n .end) (i .last-low) (omega (arith, leb-false ((lastBeat δ n + 1) * δ) (n .end) e, i .last-next, suc-mul (lastBeat δ n) δ)))
-
-      go : (a b : Bool) → leb (n .start) (firstBeat δ n * δ) ≡ a → leb ((lastBeat δ n + 1) * δ) (n .end) ≡ b → Beats δ n
-          → oneIf a + 2 * (lastBeat δ n - firstBeat δ n) + oneIf b ≡ growth δ z n
-      go a b e g i = omega (arith, start-is a e i, end-is b g i, i .order)
+      omega (arith, sides-between δ n (z, few, f .order, top))
 
   line-cells : (ns : List Note) → All (Fair δ beats) ns → length (gather (cellsOfNote δ) ns) ≡ total δ z ns
   unfolding total
