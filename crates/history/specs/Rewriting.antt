@@ -4,11 +4,11 @@ use mathlib.Core.Bool.{Bool, true, false, cond, not, true≢false, _&&_, _||_}
 use mathlib.Core.List.{List, [], _∷_, _++_}
 use mathlib.Core.Path.{_∙_, _≡_, ap, refl, sym}
 use Prim.Native.Nat.{_*_, _+_, _-_, _/_, _<_, _≤_, suc, ℕ}
-use native.Mathlib.Nat.{div-lt-iff-lt-mul, div-mul-le-self, le-div-iff-mul-le, lt-div-mul-add, mul-div-left, mul-le-mul-right, suc-mul}
+use native.Mathlib.Nat.{div-lt-iff-lt-mul, div-mul-le-self, le-div-iff-mul-le, mul-div-left, mul-le-mul-right, suc-mul}
 use native.Mathlib.Omega.{arith}
 use lib.Dec.{eqb, leb, ltb}
 use lib.ListN.{drop, length, length-append}
-use borrow.Author.Tests.{eqb-true, le-leb, leb-false, leb-true, le-ltb, lt-ltb, ltb-false, ltb-true}
+use borrow.Author.Tests.{eqb-true, le-leb, leb-false, le-ltb, lt-ltb, ltb-false, ltb-true}
 use Rattle.model.specs.Binding.{Piece, bound, boundNext, endOf, fills, firstShown, goOn, lineNotes, meet, opening, pieces, runs, standsAlone, startOf}
 use Rattle.model.specs.Histories.{Recording, recordingTake}
 use Rattle.model.specs.Limits.{maxBeats, maxDelta}
