@@ -77,6 +77,7 @@ fn channel_message(status: u8, key: u8, velocity: u8) -> Message
 
 // The second data byte of a channel event, at q, and the event. Behind it its status is in force.
 fn second_data(s: &[u8], tick: u32, status: u8, key: u8, q: usize) -> Event
+    requires { ⌜ key < 128 ⌝ }
     ensures { λ r. ⌜ eventOf r ≡ secondAt (now (s .entry)) tick status key q ⌝ }
 {
     if s.len() <= q {
