@@ -1,7 +1,7 @@
 -- The check of a note list: what holds before each note. Assumes nothing.
 use mathlib.Core.Path.{_≡_, refl, ap, _∙_}
 use mathlib.Core.Logic.{⊎-elim}
-use mathlib.Core.Bool.{Bool, true, false, _&&_, _||_, and-false}
+use mathlib.Core.Bool.{true, false, _&&_, _||_, and-false}
 use mathlib.Core.List.{List, [], _∷_}
 use Prim.Native.Nat.{ℕ, zero, suc, _+_, _*_, _-_, _/_, _%_, _≤_, _<_}
 use native.Mathlib.Nat.{mul-le-mul, mul-le-mul-left, mul-le-mul-right, add-mul, suc-mul, div-add-mod', eq-or-lt-of-le, sub-zero}
@@ -20,11 +20,10 @@ use Rattle.model.specs.declared.Header.{Header}
 use Rattle.model.specs.declared.Note.{Note}
 use Rattle.laws.specs.Notes.{Fair, fair, Follow, Follow.above, Follow.later, follow}
 use Rattle.session.specs.Checking.{beforeAll}
-use Rattle.session.specs.Counting.{oneIf}
 use Rattle.session.specs.Reading.{noteAt}
 use Rattle.session.specs.Listing.{listOf, listAsked, cellsListed}
 use Rattle.session.specs.declared.list.ListAnswer.the-variants.{Cells, Refused}
-use Rattle.session.proofs.Counts.{note-beats, count-note}
+use Rattle.session.proofs.Counts.{note-beats, count-note, one-le}
 use Rattle.session.proofs.Readings.{notes-cons}
 
 -- ---- one note
@@ -33,10 +32,6 @@ use Rattle.session.proofs.Readings.{notes-cons}
 pub count-asks : (δ beats : ℕ) (n : Note) → (0 < δ) × (δ ≤ maxDelta) × (beats ≤ maxBeats) → Fair δ beats n
     → (0 < δ) × (δ ≤ maxDelta) × (n .start < n .end) × (n .end ≤ maxBeats * δ)
 count-asks δ beats n h r = (h .0, h .1, r .order, omega (arith, r .fits, mul-le-mul-right δ (h .2)))
-
-one-le : (b : Bool) → oneIf b ≤ 1
-one-le true = omega arith
-one-le false = omega arith
 
 -- a note has at most two cells for each of its ticks
 pub few-cells : (δ : ℕ) (n : Note) → (0 < δ) × (δ ≤ maxDelta) × (n .start < n .end) × (n .end ≤ maxBeats * δ)

@@ -1,19 +1,18 @@
 -- How many cells a note has. Assumes nothing.
-use mathlib.Core.Path.{_≡_, sym, ap}
+use mathlib.Core.Path.{_≡_, refl, sym, ap}
 use mathlib.Core.Bool.{Bool, true, false}
 use mathlib.Core.List.{List, []}
-use Prim.Native.Nat.{ℕ, zero, suc, _+_, _*_, _-_, _≤_, _<_}
-use native.Mathlib.Nat.{mul-le-mul-right, le-div-iff-mul-le, div-mul-le-self, lt-div-mul-add, div-lt-iff-lt-mul, suc-mul}
+use Prim.Native.Nat.{ℕ, zero, suc, _+_, _*_, _-_, _/_, _≤_, _<_}
+use native.Mathlib.Nat.{mul-le-mul-right, le-div-iff-mul-le, div-mul-le-self, lt-div-mul-add, div-lt-iff-lt-mul, suc-mul, lt-of-mul-lt-mul-right}
 use native.Mathlib.Omega.{arith}
-use borrow.Author.Tests.{le-leb}
-use lib.Dec.{leb}
+use borrow.Author.Tests.{le-leb, leb-true, leb-false, lt-ltb, le-ltb, ltb-true, ltb-false}
+use lib.Dec.{leb, ltb}
 use lib.ListN.{length, length-append}
 use Rattle.model.specs.Lists.{consIf, gather, countFrom}
 use Rattle.model.specs.Limits.{maxBeats, maxDelta}
 use Rattle.model.specs.Pieces.{firstBeat, lastBeat, cellsInBeat, cellsOfNote, cellAt}
 use Rattle.model.specs.declared.Note.{Note}
-use Rattle.session.specs.Counting.{oneIf}
-use Rattle.session.specs.Dividing.{reciprocalOf}
+use Rattle.session.specs.Counting.{oneIf, lineSides}
 
 -- where a note's first and last beats lie
 pub record Beats (δ : ℕ) (n : Note) : Type 0 where
@@ -101,10 +100,68 @@ count-note δ n h =
     let last : suc (lastBeat δ n) ≡ lastBeat δ n + 1 = omega arith in
     rw (many, ← last) (sym (count-from i d (firstBeat δ n) (omega arith) (omega (arith, i .order))))
 
--- the first and the last beat as numbers in hand: their lines, and the count
-module _ (δ : ℕ) (n : Note) {m first last : ℕ} (h : (0 < δ) × (δ ≤ maxDelta) × (n .start < n .end) × (n .end ≤ maxBeats * δ) × (m ≡ reciprocalOf δ)) (f : first ≡ firstBeat δ n) (l : last ≡ lastBeat δ n) where
-  pub in-hand : Beats δ n × (first ≡ firstBeat δ n) × (last ≡ lastBeat δ n) × (first * δ ≡ firstBeat δ n * δ) × (last * δ ≡ lastBeat δ n * δ)
-  in-hand = (note-beats δ n (h .0, h .1, h .2, h .3), f, l, ap (λ (b : ℕ). b * δ) f, ap (λ (b : ℕ). b * δ) l)
+-- ---- the sides of lines before a tick
 
-  pub count-between : oneIf (leb (n .start) (first * δ)) + 2 * (last - first) + oneIf (leb ((last + 1) * δ) (n .end)) ≡ length (cellsOfNote δ n)
-  count-between = rw (f, l) (count-note δ n (h .0, h .1, h .2, h .3))
+-- a test and its negation as numbers
+pub one-le : (b : Bool) → oneIf b ≤ 1
+one-le true = omega arith
+one-le false = omega arith
+
+one-of : (a b : ℕ) → oneIf (ltb a b) + oneIf (leb b a) ≡ 1
+one-of a b = go (leb b a) refl
+  where
+    go : (x : Bool) → leb b a ≡ x → oneIf (ltb a b) + oneIf x ≡ 1
+    go true e = rw (le-ltb a b (leb-true b a e))
+    go false e = rw (lt-ltb a b (leb-false b a e))
+
+-- the sides before a tick that lies at line k or behind it, behind it, at it or ahead of it
+module _ (δ : ℕ) (pos : 0 < δ) (t : ℕ) where
+  pub sides-from : (k : ℕ) → k * δ ≤ t → 2 * k ≤ lineSides δ t
+  unfolding lineSides
+  sides-from k h = let below : k ≤ t / δ = le-div-iff-mul-le pos .1 h in omega arith
+
+  pub sides-behind : (k : ℕ) → k * δ < t → 2 * k < lineSides δ t
+  unfolding lineSides
+  sides-behind k h = go (ltb (t / δ * δ) t) refl
+    where
+      go : (b : Bool) → ltb (t / δ * δ) t ≡ b → 2 * k < 2 * (t / δ) + oneIf b
+      go true e = let below : k ≤ t / δ = le-div-iff-mul-le pos .1 (omega arith) in omega arith
+      go false e = let below : k < t / δ = lt-of-mul-lt-mul-right δ (omega (arith, ltb-false (t / δ * δ) t e)) in omega arith
+
+  pub sides-upto : (k : ℕ) → t ≤ k * δ → lineSides δ t ≤ 2 * k
+  unfolding lineSides
+  sides-upto k h = go (ltb (t / δ * δ) t) refl
+    where
+      go : (b : Bool) → ltb (t / δ * δ) t ≡ b → 2 * (t / δ) + oneIf b ≤ 2 * k
+      go true e = let above : t / δ < k = lt-of-mul-lt-mul-right δ (omega (arith, ltb-true (t / δ * δ) t e)) in omega arith
+      go false e = let above : t / δ < suc k = div-lt-iff-lt-mul pos .1 (omega (arith, suc-mul k δ)) in omega arith
+
+  pub sides-few : t ≤ maxBeats * δ → lineSides δ t ≤ 8192
+  sides-few = sides-upto maxBeats
+
+pub sides-later : (δ : ℕ) → 0 < δ → (t u : ℕ) → t ≤ u → lineSides δ t ≤ lineSides δ u
+unfolding lineSides
+sides-later δ pos t u h = go (ltb (t / δ * δ) t) refl
+  where
+    go : (b : Bool) → ltb (t / δ * δ) t ≡ b → 2 * (t / δ) + oneIf b ≤ lineSides δ u
+    go true e = omega (arith, sides-behind δ pos u (t / δ) (omega (arith, ltb-true (t / δ * δ) t e)))
+    go false e = omega (arith, sides-from δ pos u (t / δ) (omega (arith, div-mul-le-self t δ)))
+
+-- a note has as many cells as there are more sides before its end than before its start
+pub sides-between : (δ : ℕ) (n : Note) → (0 < δ) × (δ ≤ maxDelta) × (n .start < n .end) × (n .end ≤ maxBeats * δ)
+    → lineSides δ (n .end) ≡ lineSides δ (n .start) + length (cellsOfNote δ n)
+unfolding lineSides
+sides-between δ n h =
+    let i = note-beats δ n h in
+    omega (arith, i .order, count-note δ n h, one-of (firstBeat δ n * δ) (n .start), upto (leb ((lastBeat δ n + 1) * δ) (n .end)) refl i)
+  where
+    upto : (b : Bool) → leb ((lastBeat δ n + 1) * δ) (n .end) ≡ b → Beats δ n → lineSides δ (n .end) ≡ 2 * lastBeat δ n + 1 + oneIf b
+    upto true e i =
+        omega (
+          arith,
+          sides-upto δ (h .0) (n .end) (lastBeat δ n + 1) (omega (arith, i .last-high, i .last-next)),
+          sides-from δ (h .0) (n .end) (lastBeat δ n + 1) (leb-true ((lastBeat δ n + 1) * δ) (n .end) e),
+        )
+    upto false e i =
+        let last : n .end / δ < lastBeat δ n + 1 = div-lt-iff-lt-mul (h .0) .1 (leb-false ((lastBeat δ n + 1) * δ) (n .end) e) in
+        omega (arith, sides-behind δ (h .0) (n .end) (lastBeat δ n) (i .last-low), one-le (ltb (n .end / δ * δ) (n .end)))
