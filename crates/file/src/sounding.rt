@@ -1,9 +1,8 @@
 // The sounding table of 16 channels by 128 keys: a start tick and a velocity for each, velocity 0 in a silent lane (question 14).
 ghost use mathlib.Core.Path.{_≡_};
-ghost use Prim.Native.Nat.{_*_, _<_};
-ghost use Rattle.midi.specs.Lanes.{laneAt, putLane};
-ghost use Rattle.midi.specs.Sounding.{stopLane};
-ghost use Rattle.file.specs.CountingSteps.{sounding, laneNote, lanesSilent, StartsAs};
+ghost use Prim.Native.Nat.{_+_, _*_, _<_};
+ghost use Rattle.midi.specs.Lanes.{putLane};
+ghost use Rattle.file.specs.CountingSteps.{sounding, laneNote, lanesSilent};
 use model::Note;
 
 // What sounds in a lane, as a note that ends at a tick.
