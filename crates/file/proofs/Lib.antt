@@ -2,6 +2,7 @@
 pub mod Writes
 pub mod ChunkLoops
 pub mod Tallies
+pub mod Messages
 pub mod FirstPass
 pub mod Answers
 pub mod Silence

@@ -2,7 +2,7 @@
 use mathlib.Core.Bool.{true, _&&_}
 use mathlib.Core.List.{List, []}
 use mathlib.Core.Path.{_≡_, refl, sym, ap, _∙_}
-use Prim.Native.Nat.{ℕ, zero, suc, _+_, _*_, _/_, _%_, _≤_, _<_}
+use Prim.Native.Nat.{ℕ, zero, suc, _+_, _*_, _≤_, _<_}
 use native.Mathlib.Decide.{ℕ-discrete}
 use native.Mathlib.Omega.{arith}
 use borrow.Author.Tests.{eqb-true}
@@ -12,6 +12,7 @@ use lib.ListN.{getD}
 use Rattle.laws.specs.Booleans.{and-left, and-right}
 use Rattle.session.proofs.Layouts.{or-zero}
 use Rattle.midi.specs.Lanes.{laneAt}
+use Rattle.midi.proofs.Tables.{key-at}
 use Rattle.file.specs.CountingSteps.{lanesSilent}
 
 -- Each of them is silent.
@@ -34,17 +35,11 @@ module _ (v : List (List ℕ)) (channel : ℕ) where
   unfolding lanesSilent
   joined-start = record { low = omega arith; same = refl }
 
-  lane-is : (key : ℕ) → key < 128 → laneAt v (128 * channel + key) ≡ getD (getD v channel []) key 0
-  lane-is key h =
-      let c : (128 * channel + key) / 128 ≡ channel = omega arith in
-      let k : (128 * channel + key) % 128 ≡ key = omega arith in
-      rw (c, k)
-
   pub joined-more : (all key : ℕ) → Joined all key → key < 128 → Joined (bitOr all (getD (getD v channel []) key 0)) (key + 1)
   unfolding lanesSilent
   joined-more all key j h =
       let e : key + 1 ≡ suc key = omega arith in
-      rw e (record { low = omega arith; same = or-zero all (getD (getD v channel []) key 0) ∙ rw (lane-is key h) (ap (_&&_ (eqb 0 (getD (getD v channel []) key 0))) (j .same)) })
+      rw e (record { low = omega arith; same = or-zero all (getD (getD v channel []) key 0) ∙ rw (key-at v channel key h) (ap (_&&_ (eqb 0 (getD (getD v channel []) key 0))) (j .same)) })
 
   pub joined-done : (all key : ℕ) → Joined all key → 128 ≤ key → eqb all 0 ≡ lanesSilent v (128 * channel) 128
   joined-done all key j h = let e : key ≡ 128 = omega (arith, j .low) in j .same ∙ ap (lanesSilent v (128 * channel)) e

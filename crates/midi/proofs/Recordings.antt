@@ -61,6 +61,7 @@ pub record Holds (tick : ℕ) (t : Sounding) (notes : List Note) : Type 0 where
   pub starts : Shaped (t .start)
   pub velocities : Shaped (t .velocity)
   pub fits : All (Fits tick) notes
+  pub early : (l : ℕ) → l < 2048 → laneAt (t .start) l ≤ tick
   pub lane : (l : ℕ) → l < 2048 → LaneHolds (laneAt (t .start) l) (laneAt (t .velocity) l) (laneNotes l notes)
 
 pub holds-start : Holds 0 silence []
@@ -68,6 +69,7 @@ holds-start = record {
   starts = shaped-new 0;
   velocities = shaped-new 0;
   fits = tt;
+  early = λ l h. omega (arith, lane-new l 0 h);
   lane = λ l h. record { order = tt; soft = omega (arith, lane-new l 0 h); free = λ k. tt };
 }
 
@@ -76,6 +78,7 @@ holds-later u v t notes h i = record {
   starts = i .starts;
   velocities = i .velocities;
   fits = all-imp (Fits u) (Fits v) notes (fits-later u v h) (i .fits);
+  early = λ l k. omega (arith, i .early l k);
   lane = i .lane;
 }
 
@@ -85,9 +88,14 @@ start-holds tick l v t notes h k i = record {
   starts = put-shaped (t .start) (i .starts) l tick h;
   velocities = put-shaped (t .velocity) (i .velocities) l v h;
   fits = i .fits;
+  early = λ j m. by-lane j m (ℕ-discrete j l);
   lane = λ j m. go j m (ℕ-discrete j l);
 }
   where
+    by-lane : (j : ℕ) → j < 2048 → Dec (j ≡ l) → laneAt (putLane (t .start) l tick) j ≤ tick
+    by-lane j m (yes d) = rw (d, lane-put (t .start) (i .starts) l tick h) (omega arith)
+    by-lane j m (no d) = rw (lane-other (t .start) (i .starts) l tick h j d) (i .early j m)
+
     go : (j : ℕ) → j < 2048 → Dec (j ≡ l) → LaneHolds (laneAt (putLane (t .start) l tick) j) (laneAt (putLane (t .velocity) l v) j) (laneNotes j notes)
     go j m (yes d) =
         rw (d, lane-put (t .start) (i .starts) l tick h, lane-put (t .velocity) (i .velocities) l v h)
@@ -153,6 +161,7 @@ stop-holds tick l t notes h i = record {
   starts = i .starts;
   velocities = put-shaped (t .velocity) (i .velocities) l 0 h;
   fits = all-append (Fits tick) notes (endedLane t tick l) (i .fits) (ended-fits tick l (laneAt (t .start) l) (laneAt (t .velocity) l) h (i .lane l h .soft));
+  early = i .early;
   lane = λ j m. go j m (ℕ-discrete j l);
 }
   where

@@ -2,11 +2,11 @@
 use mathlib.Core.Path.{_≡_, refl, ap, _∙_}
 use mathlib.Core.Logic.{_≢_}
 use mathlib.Core.List.{List, []}
-use Prim.Native.Nat.{ℕ, _<_}
+use Prim.Native.Nat.{ℕ, _+_, _*_, _/_, _%_, _<_}
 use native.Mathlib.Decide.{ℕ-discrete}
 use native.Mathlib.Omega.{arith}
 use lib.ListN.{length, getD, set, replicate, length-set, getD-replicate}
-use lib.Seq.{getD-set-same, getD-set-other}
+use lib.Seq.{getD-set-same, getD-set-other, set-getD}
 use Rattle.midi.specs.Lanes.{channelOf, keyOf, tableOf, laneAt, putLane}
 
 -- 16 rows of 128.
@@ -44,3 +44,21 @@ module _ (t : List (List ℕ)) (s : Shaped t) (l v : ℕ) (h : l < 2048) where
 
 pub lane-new : (l v : ℕ) → l < 2048 → laneAt (tableOf v) l ≡ v
 lane-new l v h = rw (getD-replicate 16 (channelOf l) (replicate 128 v) [] (omega arith)) (getD-replicate 128 (keyOf l) v 0 (omega arith))
+
+-- A lane keeps what it has.
+pub lane-keep : (t : List (List ℕ)) (l : ℕ) → putLane t l (laneAt t l) ≡ t
+lane-keep t l = rw (set-getD (getD t (channelOf l) []) (keyOf l) 0) (set-getD t (channelOf l) [])
+
+-- The lane of a channel's key.
+module _ (t : List (List ℕ)) (channel key : ℕ) (h : key < 128) where
+  own-channel : (128 * channel + key) / 128 ≡ channel
+  own-channel = omega arith
+
+  own-key : (128 * channel + key) % 128 ≡ key
+  own-key = omega arith
+
+  pub key-at : laneAt t (128 * channel + key) ≡ getD (getD t channel []) key 0
+  key-at = rw (own-channel, own-key)
+
+  pub key-put : (v : ℕ) → putLane t (128 * channel + key) v ≡ set t channel (set (getD t channel []) key v)
+  key-put v = rw (own-channel, own-key)

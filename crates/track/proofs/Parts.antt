@@ -7,7 +7,7 @@ use native.Mathlib.Numerals.{add-one}
 use native.Mathlib.Omega.{arith}
 use lib.Dec.{leb, ltb, eqb}
 use lib.ListN.{length, getD}
-use borrow.Author.Tests.{lt-ltb, le-ltb, ltb-true, ltb-false, le-leb, lt-leb, eq-eqb, eqb-true, ne-eqb}
+use borrow.Author.Tests.{lt-ltb, le-ltb, ltb-true, ltb-false, le-leb, lt-leb, eq-eqb, eqb-true, eqb-false, ne-eqb}
 use Rattle.midi.specs.Numbers.{noQuantity, quantity, quantityAt}
 use Rattle.midi.specs.Events.{
   Place,
@@ -31,7 +31,9 @@ use Rattle.midi.specs.Events.{
 }
 use Rattle.midi.proofs.Branches.{same-test}
 use lib.Bits.{bitOr, or-add-and, and-le-l, and-le-r}
-use Rattle.track.specs.Reading.{secondAt, overAt, endAt}
+use Rattle.midi.proofs.Legal.{InRange}
+use Rattle.track.specs.Reading.{laneOf, messageOf, secondAt, overAt, endAt}
+use Rattle.track.specs.declared.cursor.Message.the-variants.{Plays}
 use Rattle.track.proofs.ReadGroups.{group-last}
 
 -- ---- data bytes
@@ -264,24 +266,50 @@ module _ (s : List ℕ) (p : Place) (room : p .at + 4 ≤ length s) (short : get
       ∙ data-bytes ∙ own ∙ event-behind s p (getD s at 0) (at + 1) time
 
 -- what 8n and 9n say, by the velocity v of the note that they start
-module _ (status key velocity v : ℕ) (note : status / 32 ≡ 4) (e : v ≡ cond (ltb status 144) 0 velocity) where
-  pub note-ends : v ≡ 0 → ends (status % 16 * 128 + key) ≡ channelMessage status key velocity
-  note-ends z = go (ltb status 144) refl where
-    go : (b : Bool) → ltb status 144 ≡ b → ends (status % 16 * 128 + key) ≡ channelMessage status key velocity
-    go true t = let h : status < 144 = ltb-true status 144 t in message-ends status key velocity (λ f. omega arith) (omega arith)
-    go false t =
-        let h : 144 ≤ status = ltb-false status 144 t in
-        let f : v ≡ velocity = rw t at e in
-        message-silent status key velocity (omega arith) (omega arith)
+module _ (status key velocity v : ℕ) (note : status / 32 ≡ 4) (low : key < 128) (e : v ≡ cond (ltb status 144) 0 velocity) where
+  lane : laneOf (status % 16) key ≡ status % 16 * 128 + key
+  lane = rw (lt-ltb key 128 low) (omega arith)
 
-  pub note-starts : (v ≡ 0 → ⊥) → starts (status % 16 * 128 + key) v ≡ channelMessage status key velocity
-  note-starts z = go (ltb status 144) refl where
-    go : (b : Bool) → ltb status 144 ≡ b → starts (status % 16 * 128 + key) v ≡ channelMessage status key velocity
-    go true t = absurd (z (rw t at e))
-    go false t =
-        let h : 144 ≤ status = ltb-false status 144 t in
-        let f : v ≡ velocity = rw t at e in
-        rw f (message-starts status key velocity (omega arith) (λ x. z (f ∙ x)))
+  pub note-plays : messageOf (Plays (status % 16) key v) ≡ channelMessage status key velocity
+  note-plays = rw lane (go (ltb status 144) refl)
+    where
+      by-velocity : 144 ≤ status → (b : Bool) → eqb velocity 0 ≡ b
+          → cond b (ends (status % 16 * 128 + key)) (starts (status % 16 * 128 + key) velocity) ≡ channelMessage status key velocity
+      by-velocity h true z = message-silent status key velocity (omega arith) (eqb-true velocity 0 z)
+      by-velocity h false z = message-starts status key velocity (omega arith) (eqb-false velocity 0 z)
+
+      go : (b : Bool) → ltb status 144 ≡ b
+          → cond (eqb v 0) (ends (status % 16 * 128 + key)) (starts (status % 16 * 128 + key) v) ≡ channelMessage status key velocity
+      go true t =
+          let h : status < 144 = ltb-true status 144 t in
+          let z : v ≡ 0 = rw t at e in
+          rw z (message-ends status key velocity (λ f. omega arith) (omega arith))
+      go false t =
+          let f : v ≡ velocity = rw t at e in
+          rw f (by-velocity (ltb-false status 144 t) (eqb velocity 0) refl)
+
+pub note-not : (status key velocity : ℕ) → (status / 32 ≡ 4 → ⊥) → passed ≡ channelMessage status key velocity
+note-not status key velocity d = message-passed status key velocity (λ e. d (omega arith)) (λ e. d (omega arith))
+
+-- what a message that plays says, and that its channel and key are in range where its lane is
+module _ (channel key velocity : ℕ) where
+  pub plays-low : InRange (messageOf (Plays channel key velocity)) → (channel < 16) × (key < 128)
+  plays-low h = by-key (ltb key 128) refl (by-velocity (eqb velocity 0) h)
+    where
+      by-velocity : (b : Bool) → InRange (cond b (ends (laneOf channel key)) (starts (laneOf channel key) velocity)) → laneOf channel key < 2048
+      by-velocity true h = h
+      by-velocity false h = h .0
+
+      by-key : (b : Bool) → ltb key 128 ≡ b → cond b (128 * channel + key) 2048 < 2048 → (channel < 16) × (key < 128)
+      by-key true e h = (omega arith, ltb-true key 128 e)
+      by-key false e h = absurd (omega arith)
+
+  module _ (low : key < 128) where
+    pub plays-end : velocity ≡ 0 → messageOf (Plays channel key velocity) ≡ ends (128 * channel + key)
+    plays-end z = rw (eq-eqb velocity 0 z, lt-ltb key 128 low)
+
+    pub plays-start : (velocity ≡ 0 → ⊥) → messageOf (Plays channel key velocity) ≡ starts (128 * channel + key) velocity
+    plays-start d = rw (ne-eqb velocity 0 d, lt-ltb key 128 low)
 
 -- the bits of three numbers together are at least each
 pub or-most : (a b c n : ℕ) → bitOr (bitOr a b) c < n → (a < n) × (b < n) × (c < n)

@@ -1,8 +1,8 @@
 -- What the answers of a track's reader are, case by case, and the parts in which it reads an event. Assumes nothing.
-use Prim.Native.Nat.{ℕ, suc, _+_}
-use mathlib.Core.Bool.{true, false, _&&_}
+use Prim.Native.Nat.{ℕ, suc, _+_, _*_}
+use mathlib.Core.Bool.{true, false, cond, _&&_}
 use mathlib.Core.List.{List}
-use lib.Dec.{leb, eqb}
+use lib.Dec.{leb, ltb, eqb}
 use lib.ListN.{length, getD}
 use Rattle.midi.specs.Numbers as N
 use Rattle.midi.specs.Events as E
@@ -10,7 +10,7 @@ use Rattle.track.specs.declared.cursor.Cursor.{Cursor}
 use Rattle.track.specs.declared.quantities.Quantity.{Quantity}
 use Rattle.track.specs.declared.quantities.Quantity.the-variants.{Nothing, Number}
 use Rattle.track.specs.declared.cursor.Message.{Message}
-use Rattle.track.specs.declared.cursor.Message.the-variants.{Starts, Ends, Passed}
+use Rattle.track.specs.declared.cursor.Message.the-variants.{Plays, Passed}
 use Rattle.track.specs.declared.cursor.Event.{Event}
 use Rattle.track.specs.declared.cursor.Event.the-variants.{Illegal, Legal, Finished}
 
@@ -23,10 +23,13 @@ quantityOf (Number n q) = N.quantity n q
 abbrev pub placeOf : Cursor → E.Place
 placeOf c = E.place (c .at) (c .tick) (c .running)
 
+-- The lane of a channel's key; 2,048, which is no lane, for a key above 127.
+abbrev pub laneOf : ℕ → ℕ → ℕ
+laneOf channel key = cond (ltb key 128) (128 * channel + key) 2048
+
 -- What an event says.
 abbrev pub messageOf : Message → E.Message
-messageOf (Starts lane velocity) = E.starts lane velocity
-messageOf (Ends lane) = E.ends lane
+messageOf (Plays channel key velocity) = cond (eqb velocity 0) (E.ends (laneOf channel key)) (E.starts (laneOf channel key) velocity)
 messageOf Passed = E.passed
 
 -- What stands at a place.

@@ -22,10 +22,12 @@ pub struct Cursor {
 
 // What an event says.
 pub enum Message {
-    // A note starts.
-    Starts { lane: u32, velocity: u32 },
-    // The note of a lane ends.
-    Ends(u32),
+    // The note of a channel's key starts, or with velocity 0 ends.
+    Plays {
+        channel: u32,
+        key: u32,
+        velocity: u32,
+    },
     // It is read over.
     Passed,
 }
@@ -40,28 +42,42 @@ pub enum Event {
     Finished(u32),
 }
 
-// What a channel event with two data bytes says.
-fn channel_message(status: u8, key: u8, velocity: u8) -> Message
+// The velocity of the note that 8n or 9n starts: none for 8n.
+fn start_velocity(status: u8, velocity: u8) -> u32
+    ensures { λ r. ⌜ r ≡ cond (ltb status 144) 0 velocity ⌝ }
+{
+    if status < 144 {
+        return 0;
+    }
+    velocity as u32
+}
+
+// What 8n and 9n say: an end is a start with velocity 0.
+fn note_message(status: u8, key: u8, velocity: u8) -> Message
+    requires { ⌜ (status / 32 ≡ 4) × (key < 128) ⌝ }
     ensures { λ r. ⌜ messageOf r ≡ channelMessage status key velocity ⌝ }
 {
-    let lane = (status % 16) as u32 * 128 + key as u32;
-    if status / 16 == 9 {
-        if velocity == 0 {
-            return Message::Ends(lane);
-        }
-        return Message::Starts {
-            lane: lane,
-            velocity: velocity as u32,
-        };
+    Message::Plays {
+        channel: (status % 16) as u32,
+        key: key as u32,
+        velocity: start_velocity(status, velocity),
     }
-    if status / 16 == 8 {
-        return Message::Ends(lane);
+}
+
+// What a channel event with two data bytes says.
+fn channel_message(status: u8, key: u8, velocity: u8) -> Message
+    requires { ⌜ key < 128 ⌝ }
+    ensures { λ r. ⌜ messageOf r ≡ channelMessage status key velocity ⌝ }
+{
+    if status / 32 != 4 {
+        return Message::Passed;
     }
-    Message::Passed
+    note_message(status, key, velocity)
 }
 
 // The second data byte of a channel event, at q, and the event. Behind it its status is in force.
 fn second_data(s: &[u8], tick: u32, status: u8, key: u8, q: usize) -> Event
+    requires { ⌜ key < 128 ⌝ }
     ensures { λ r. ⌜ eventOf r ≡ secondAt (now (s .entry)) tick status key q ⌝ }
 {
     if s.len() <= q {
@@ -207,32 +223,6 @@ fn any_event(s: &[u8], at: usize, tick: u32, running: u8) -> Event
     match quantities::quantity_at(s, at) {
         Quantity::Nothing => Event::Illegal,
         Quantity::Number(d, q) => behind_time(s, tick + d, running, q),
-    }
-}
-
-// The velocity of the note that 8n or 9n starts: none for 8n.
-fn start_velocity(status: u8, velocity: u8) -> u32
-    ensures { λ r. ⌜ r ≡ cond (ltb status 144) 0 velocity ⌝ }
-{
-    if status < 144 {
-        return 0;
-    }
-    velocity as u32
-}
-
-// What 8n and 9n say: an end is a start with velocity 0.
-fn note_message(status: u8, key: u8, velocity: u8) -> Message
-    requires { ⌜ status / 32 ≡ 4 ⌝ }
-    ensures { λ r. ⌜ messageOf r ≡ channelMessage status key velocity ⌝ }
-{
-    let lane = (status % 16) as u32 * 128 + key as u32;
-    let starts = start_velocity(status, velocity);
-    if starts == 0 {
-        return Message::Ends(lane);
-    }
-    Message::Starts {
-        lane: lane,
-        velocity: starts,
     }
 }
 

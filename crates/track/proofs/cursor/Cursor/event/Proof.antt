@@ -65,7 +65,7 @@ add-t24 c = let a = c .before .before .before .before .before .before .before .b
 
 -- src/cursor.rt:265:43
 note-message-requires : tie.Need-note-message-requires
-note-message-requires c κs = search needs
+note-message-requires c κs = let a = c .before .before .before .before .before .before .before .before .args in let i = a .self .at in (c .if3 .taken, or-most (getD (a .s .now) i 0) (getD (a .s .now) (i + 2) 0) (getD (a .s .now) (i + 3) 0) 128 (c .before .if2 .taken) .1)
 
 -- src/cursor.rt:265:17
 returns-2 : tie.Need-returns-2
