@@ -2,3 +2,4 @@
 pub mod Buckets
 pub mod Shorts
 pub mod Plans
+pub mod Steps
