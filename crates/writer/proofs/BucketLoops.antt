@@ -6,21 +6,19 @@ use Prim.Native.Nat.{ℕ, zero, suc, _+_, _-_, _*_, _/_, _%_, _≤_, _<_}
 use native.Mathlib.Nat.{add-zero, mul-le-mul}
 use native.Mathlib.Omega.{arith}
 use lib.Dec.{ltb}
-use lib.ListN.{length, getD, take, drop, length-append}
-use lib.Seq.{getD-take, getD-drop, ext-getD, length-take-le, take-add, take-all}
+use lib.ListN.{length, getD, take, length-append}
+use lib.Seq.{getD-take, ext-getD, length-take-le}
 use Rattle.words.specs.Splice.{splice, splice-append-last, length-splice, getD-splice-before}
-use Rattle.words.specs.Parts.{length-part}
-use Rattle.radix.specs.Sort.{sort, length-sort}
-use Rattle.radix.specs.Spread.{only, spread}
 use Rattle.midi.specs.Numbers.{quantityBytes, word32}
 use Rattle.midi.specs.Writing.{messageBytes}
 use Rattle.track.specs.Keys.{tickOf, eventOf}
-use Rattle.buckets.specs.Buckets.{bucket, base, short, Holds, Ends, Fair}
+use Rattle.buckets.specs.Buckets.{base}
 use Rattle.writer.specs.Tracks.{Timed}
 use Rattle.writer.specs.Windows.{windowBytes, lastTick, longest, WindowAsks}
-use Rattle.writer.specs.Emitting.{eventsFrom, startOf, eventsOf, eventsTo, Bounds, Noted, Ahead, BucketAhead}
+use Rattle.writer.specs.Emitting.{eventsFrom, startOf, eventsOf, span, eventsTo, Bounds, Noted, Ahead, BucketAhead}
 use Rattle.writer.proofs.WindowLoops.{timed-window, timed-behind}
 use Rattle.writer.proofs.Storing.{word-same}
+use Rattle.writer.proofs.Spans.{span-none, span-next}
 
 -- ---- the bytes of events behind one another
 
@@ -97,22 +95,27 @@ unfolding startOf
 start-later ends zero h = absurd (omega arith)
 start-later ends (suc v) h = let e : suc v - 1 ≡ v = omega arith in rw e
 
-to-next : (width : ℕ) (ends out : List ℕ) (v : ℕ) → eventsTo width ends out (suc v) ≡ eventsTo width ends out v ++ eventsOf width ends out v
-unfolding eventsTo
-to-next width ends out v = refl
-
-module _ {width : ℕ} {ends : List ℕ} (b : Bounds width ends) (out : List ℕ) where
-  pub to-length : (v : ℕ) → v ≤ 2048 → length (eventsTo width ends out v) ≡ startOf ends v
-  unfolding eventsTo startOf
-  to-length zero h = refl
-  to-length (suc v) h =
-      omega (
+module _ {width : ℕ} {ends : List ℕ} (b : Bounds width ends) (out : List ℕ) (first : ℕ) where
+  length-on : (m : ℕ) → m + first ≤ 2048 → startOf ends first + length (eventsTo width ends out first (m + first)) ≡ startOf ends (m + first)
+  length-on zero h =
+      let e : 0 + first ≡ first = omega arith in
+      rw e (omega (arith, ap length (span-none (eventsOf width ends out) first)))
+  length-on (suc m) h =
+      let v : ℕ = m + first in
+      let e : suc m + first ≡ suc v = omega arith in
+      rw e
+      (omega (
         arith,
-        length-append (eventsTo width ends out v) (eventsOf width ends out v),
-        to-length v (omega arith),
+        ap length (span-next (eventsOf width ends out) first v (omega arith)),
+        length-append (eventsTo width ends out first v) (eventsOf width ends out v),
+        length-on m (omega arith),
         b .rising v (omega arith),
+        start-next ends v,
         events-length (base width v) out (startOf ends v) (getD ends v 0 - startOf ends v),
-      )
+      ))
+
+  pub to-length : (v : ℕ) → first ≤ v → v ≤ 2048 → startOf ends first + length (eventsTo width ends out first v) ≡ startOf ends v
+  to-length v h l = let e : (v - first) + first ≡ v = omega arith in rw e at (length-on (v - first) (omega arith))
 
 -- ---- one bucket
 
@@ -143,71 +146,92 @@ module _ {width v : ℕ} {ends out starts ticks : List ℕ} (b : Bounds width en
 
 -- ---- the loop
 
--- The bytes of the first v buckets' events are left; with them all is written. Ahead of what is written all is as it was.
-pub record Emitting (width : ℕ) (ends out₀ : List ℕ) (v : ℕ) (out : List ℕ) : Type 0 where
+-- The bytes of the buckets from `first` on up to bucket v are left; with them all is written. Ahead of what is written all is as it was.
+pub record Emitting (width first at tick : ℕ) (ends out₀ : List ℕ) (v : ℕ) (out : List ℕ) : Type 0 where
+  pub low : first ≤ v
   pub few : v ≤ 2048
   pub long : length out ≡ length out₀
-  pub ahead : Ahead width v ends out₀
+  pub ahead : Ahead width first at tick v ends out₀
   pub front : (i : ℕ) → i < 22 + 4 * startOf ends v → getD out i 0 ≡ getD out₀ i 0
-  pub same : splice out 22 (windowBytes 0 (eventsTo width ends out₀ v)) ≡ splice out₀ 22 (windowBytes 0 (eventsTo width ends out₀ 2048))
+  pub same : splice out at (windowBytes tick (eventsTo width ends out₀ first v)) ≡ splice out₀ at (windowBytes tick (eventsTo width ends out₀ first 2048))
 
-pub emitting-start : {width : ℕ} {ends out : List ℕ} → Ahead width 2048 ends out → Emitting width ends out 2048 out
-emitting-start h = record { few = omega arith; long = refl; ahead = h; front = λ i l. refl; same = refl }
+pub emitting-start : {width first at tick : ℕ} {ends out : List ℕ} → first < 2048 → Ahead width first at tick 2048 ends out → Emitting width first at tick ends out 2048 out
+emitting-start l h = record { low = omega arith; few = omega arith; long = refl; ahead = h; front = λ i l. refl; same = refl }
 
-pub emitting-at : {width : ℕ} {ends out₀ : List ℕ} {w : ℕ} {out : List ℕ} (v : ℕ) → w ≡ suc v → Emitting width ends out₀ w out → Emitting width ends out₀ (suc v) out
-emitting-at {width} {ends} {out₀} {out = out} v p e = subst (λ (n : ℕ). Emitting width ends out₀ n out) p e
+pub emitting-at : {width first at tick : ℕ} {ends out₀ : List ℕ} {w : ℕ} {out : List ℕ} (v : ℕ) → w ≡ suc v → Emitting width first at tick ends out₀ w out
+    → Emitting width first at tick ends out₀ (suc v) out
+emitting-at {width} {first} {at} {tick} {ends} {out₀} {out = out} v p e = subst (λ (n : ℕ). Emitting width first at tick ends out₀ n out) p e
 
-module _ {width : ℕ} {ends starts ticks out₀ : List ℕ} (b : Bounds width ends) (n : Noted width ends out₀ starts ticks) {v : ℕ} {out : List ℕ} (e : Emitting width ends out₀ (suc v) out) where
+module _ {width first at tick : ℕ} {ends starts ticks out₀ : List ℕ} (b : Bounds width ends) (n : Noted width first at tick ends out₀ starts ticks) {v : ℕ} (h : first ≤ v)
+    {out : List ℕ} (e : Emitting width first at tick ends out₀ (suc v) out) where
   abbrev ks : List ℕ
-  ks = eventsTo width ends out₀ v
+  ks = eventsTo width ends out₀ first v
 
   abbrev own : List ℕ
   own = eventsOf width ends out₀ v
 
-  parted : Timed longest 0 (ks ++ own)
-  parted = rw to-next at (e .ahead .timed)
+  early : v < 2048
+  early = omega (arith, e .few)
 
-  bytes : windowBytes 0 (eventsTo width ends out₀ (suc v)) ≡ windowBytes 0 ks ++ windowBytes (lastTick 0 ks) own
-  bytes = ap (windowBytes 0) (to-next width ends out₀ v) ∙ window-append 0 ks own
+  next : eventsTo width ends out₀ first (suc v) ≡ ks ++ own
+  next = span-next (eventsOf width ends out₀) first v h
 
-  sizes : 22 + (length (windowBytes 0 ks) + length (windowBytes (lastTick 0 ks) own)) ≤ length out₀
-  sizes = omega (arith, e .ahead .room, ap length bytes, length-append (windowBytes 0 ks) (windowBytes (lastTick 0 ks) own))
+  parted : Timed longest tick (ks ++ own)
+  parted = rw next at (e .ahead .timed)
+
+  bytes : windowBytes tick (eventsTo width ends out₀ first (suc v)) ≡ windowBytes tick ks ++ windowBytes (lastTick tick ks) own
+  bytes = ap (windowBytes tick) next ∙ window-append tick ks own
+
+  sizes : at + (length (windowBytes tick ks) + length (windowBytes (lastTick tick ks) own)) ≤ length out₀
+  sizes = omega (arith, e .ahead .room, ap length bytes, length-append (windowBytes tick ks) (windowBytes (lastTick tick ks) own))
 
   own-same : eventsOf width ends out v ≡ own
   own-same =
       events-same (base width v) out₀ out (startOf ends v) (getD ends v 0 - startOf ends v)
-      (λ i k l. e .front i (omega (arith, start-next ends v, b .rising v (omega (arith, e .few)))))
+      (λ i k l. e .front i (omega (arith, start-next ends v, b .rising v early)))
 
   -- the bytes of the bucket stand behind all events of earlier ones
   behind : 22 + 4 * startOf ends v ≤ getD starts v 0
-  behind = omega (arith, window-long 0 ks, to-length b out₀ v (omega (arith, e .few)), n .place v (omega (arith, e .few)))
+  behind = omega (arith, window-long tick ks, e .ahead .behind, to-length b out₀ first v h (omega (arith, early)), n .place v h early)
 
   pub emitting-bucket : BucketAhead width v ends out starts ticks
   emitting-bucket =
-      let early : v < 2048 = omega (arith, e .few) in
-      let t : getD ticks v 0 ≡ lastTick 0 ks = n .tick v early in
+      let t : getD ticks v 0 ≡ lastTick tick ks = n .before v h early in
       record {
         early = early;
-        held = omega (arith, e .ahead .room, e .long, window-long 0 (eventsTo width ends out₀ (suc v)), to-length b out₀ (suc v) (e .few), start-next ends v);
+        held = omega (
+          arith,
+          e .ahead .room,
+          e .ahead .behind,
+          e .long,
+          window-long tick (eventsTo width ends out₀ first (suc v)),
+          to-length b out₀ first (suc v) (e .low) (e .few),
+          start-next ends v,
+        );
         timed = rw (own-same, t) (timed-behind ks own parted);
-        room = rw (own-same, t) (omega (arith, sizes, e .long, n .place v early));
+        room = rw (own-same, t) (omega (arith, sizes, e .long, n .place v h early));
       }
 
-  pub emitting-next : {out′ : List ℕ} → out′ ≡ splice out (getD starts v 0) (windowBytes (getD ticks v 0) (eventsOf width ends out v)) → Emitting width ends out₀ v out′
+  pub emitting-next : {out′ : List ℕ} → out′ ≡ splice out (getD starts v 0) (windowBytes (getD ticks v 0) (eventsOf width ends out v))
+      → Emitting width first at tick ends out₀ v out′
   emitting-next {out′} g =
-      let early : v < 2048 = omega (arith, e .few) in
-      let w : List ℕ = windowBytes (lastTick 0 ks) own in
-      let p : ℕ = 22 + length (windowBytes 0 ks) in
-      let f : out′ ≡ splice out p w = rw (← own-same, ← n .tick v early, ← n .place v early) g in
+      let w : List ℕ = windowBytes (lastTick tick ks) own in
+      let p : ℕ = at + length (windowBytes tick ks) in
+      let f : out′ ≡ splice out p w = rw (← own-same, ← n .before v h early, ← n .place v h early) g in
       rw f
       (record {
-        few = omega arith;
+        low = h;
+        few = omega (arith, early);
         long = length-splice out p w ∙ e .long;
-        ahead = record { timed = timed-window ks own parted (omega arith); room = omega (arith, sizes) };
-        front = λ i l. getD-splice-before out p w i (omega (arith, behind, n .place v early)) ∙ e .front i (omega (arith, start-next ends v, b .rising v early));
-        same = sym (splice-append-last out 22 (windowBytes 0 ks) w) ∙ ap (splice out 22) (sym bytes) ∙ e .same;
+        ahead = record { behind = e .ahead .behind; timed = timed-window ks own parted (omega arith); room = omega (arith, sizes) };
+        front = λ i l. getD-splice-before out p w i (omega (arith, behind, n .place v h early)) ∙ e .front i (omega (arith, start-next ends v, b .rising v early));
+        same = sym (splice-append-last out at (windowBytes tick ks) w) ∙ ap (splice out at) (sym bytes) ∙ e .same;
       })
 
-pub emitting-over : {width : ℕ} {ends out₀ : List ℕ} {v : ℕ} {out : List ℕ} → v ≡ 0 → Emitting width ends out₀ v out → out ≡ splice out₀ 22 (windowBytes 0 (eventsTo width ends out₀ 2048))
-unfolding eventsTo windowBytes splice
-emitting-over {width} {ends} {out₀} {out = out} z e = subst (λ (v : ℕ). splice out 22 (windowBytes 0 (eventsTo width ends out₀ v)) ≡ splice out₀ 22 (windowBytes 0 (eventsTo width ends out₀ 2048))) z (e .same)
+pub emitting-over : {width first at tick : ℕ} {ends out₀ : List ℕ} {v : ℕ} {out : List ℕ} → v ≤ first → Emitting width first at tick ends out₀ v out
+    → out ≡ splice out₀ at (windowBytes tick (eventsTo width ends out₀ first 2048))
+unfolding windowBytes splice
+emitting-over {width} {first} {at} {tick} {ends} {out₀} {v} {out} l e =
+    let z : v ≡ first = omega (arith, e .low) in
+    let none : eventsTo width ends out₀ first v ≡ [] = ap (span (eventsOf width ends out₀) first) z ∙ span-none (eventsOf width ends out₀) first in
+    ap (λ (ks : List ℕ). splice out at (windowBytes tick ks)) (sym none) ∙ e .same

@@ -8,7 +8,9 @@ pub mod Written
 pub mod Tables
 pub mod Parts
 pub mod Storing
+pub mod Spans
 pub mod BucketLoops
 pub mod BucketEvents
 pub mod InPlace
 pub mod Sorting
+pub mod TightLoops

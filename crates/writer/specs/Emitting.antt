@@ -1,8 +1,9 @@
 -- The events that stand in an output, bucket by bucket, and what writing their bytes asks. Assumes nothing.
 use mathlib.Core.Path.{_≡_}
-use mathlib.Core.List.{List, [], _∷_, _++_}
+use mathlib.Core.List.{List, [], _∷_}
 use Prim.Native.Nat.{ℕ, zero, suc, _+_, _-_, _*_, _≤_, _<_}
 use lib.ListN.{length, getD}
+use Rattle.radix.specs.Parts.{joined}
 use Rattle.midi.specs.Numbers.{word32}
 use Rattle.buckets.specs.Buckets.{base}
 use Rattle.writer.specs.Tracks.{Timed}
@@ -18,13 +19,17 @@ unfoldable pub startOf : List ℕ → ℕ → ℕ
 startOf ends zero = 0
 startOf ends (suc v) = getD ends v 0
 
--- The events of bucket v, and of all buckets before it.
+-- The events of bucket v.
 abbrev pub eventsOf : ℕ → List ℕ → List ℕ → ℕ → List ℕ
 eventsOf width ends out v = eventsFrom (base width v) out (startOf ends v) (getD ends v 0 - startOf ends v)
 
-unfoldable pub eventsTo : ℕ → List ℕ → List ℕ → ℕ → List ℕ
-eventsTo width ends out zero = []
-eventsTo width ends out (suc v) = eventsTo width ends out v ++ eventsOf width ends out v
+-- Parts from part `first` on, up to part v, one behind the other.
+unfoldable pub span : (ℕ → List ℕ) → ℕ → ℕ → List ℕ
+span f first v = joined (λ n. f (first + n)) (v - first)
+
+-- The events of the buckets from `first` on, up to bucket v.
+abbrev pub eventsTo : ℕ → List ℕ → List ℕ → ℕ → ℕ → List ℕ
+eventsTo width ends out first v = span (eventsOf width ends out) first v
 
 -- Room for what is noted of each bucket, and for the events of one.
 pub record Tables (ends a starts ticks : List ℕ) : Type 0 where
@@ -39,15 +44,17 @@ pub record Bounds (width : ℕ) (ends : List ℕ) : Type 0 where
   pub rising : (v : ℕ) → v < 2048 → startOf ends v ≤ getD ends v 0
   pub few : (v : ℕ) → v < 2048 → getD ends v 0 ≤ startOf ends v + 2048
 
--- Where the bytes of each bucket start, and the tick of the event before it.
-pub record Noted (width : ℕ) (ends out starts ticks : List ℕ) : Type 0 where
-  pub place : (v : ℕ) → v < 2048 → getD starts v 0 ≡ 22 + length (windowBytes 0 (eventsTo width ends out v))
-  pub tick : (v : ℕ) → v < 2048 → getD ticks v 0 ≡ lastTick 0 (eventsTo width ends out v)
+-- Where the bytes of each bucket from `first` on start, and the tick of the event before it. Those of the first start at place `at`, behind an
+-- event at `tick`.
+pub record Noted (width first at tick : ℕ) (ends out starts ticks : List ℕ) : Type 0 where
+  pub place : (v : ℕ) → first ≤ v → v < 2048 → getD starts v 0 ≡ at + length (windowBytes tick (eventsTo width ends out first v))
+  pub before : (v : ℕ) → first ≤ v → v < 2048 → getD ticks v 0 ≡ lastTick tick (eventsTo width ends out first v)
 
--- The bytes of the events of v buckets are to be written.
-pub record Ahead (width v : ℕ) (ends out : List ℕ) : Type 0 where
-  pub timed : Timed longest 0 (eventsTo width ends out v)
-  pub room : 22 + length (windowBytes 0 (eventsTo width ends out v)) ≤ length out
+-- The bytes of the events of the buckets from `first` on, up to bucket v, are to be written, behind all events of earlier ones.
+pub record Ahead (width first at tick v : ℕ) (ends out : List ℕ) : Type 0 where
+  pub behind : 22 + 4 * startOf ends first ≤ at
+  pub timed : Timed longest tick (eventsTo width ends out first v)
+  pub room : at + length (windowBytes tick (eventsTo width ends out first v)) ≤ length out
 
 -- The bytes of the events of bucket v are to be written.
 pub record BucketAhead (width v : ℕ) (ends out starts ticks : List ℕ) : Type 0 where

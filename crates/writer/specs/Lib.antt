@@ -5,4 +5,5 @@ pub mod Files
 pub mod Stored
 pub mod Emitting
 pub mod Bucketing
+pub mod Tight
 pub mod Wide

@@ -9,7 +9,7 @@ use crate::stored;
 use crate::windows;
 
 // Where the events of a bucket begin: where those of the bucket before it end.
-fn bucket_start(ends: &[u32], v: usize) -> usize
+pub fn bucket_start(ends: &[u32], v: usize) -> usize
     requires { ⌜ v < length (now ends) ⌝ }
     ensures { λ r. ⌜ r ≡ startOf (now (ends .entry)) v ⌝ }
 {
@@ -38,20 +38,21 @@ fn put_bucket(
     windows::put_window(out, starts[v] as usize, ticks[v], a, upto - from);
 }
 
-// Writes the bytes of each bucket to their place, from the last bucket to the first: they start behind all events of earlier buckets.
+// Writes the bytes of each bucket from `first` on to their place, the last bucket first: they start behind all events of earlier buckets.
 pub fn put_buckets(
     out: &mut [u8],
     width: u32,
+    first: usize,
     ends: &[u32],
     a: &mut [u64],
     starts: &[u32],
     ticks: &[u32],
 )
-    requires { ⌜ Tables (now ends) (now a) (now starts) (now ticks) × Bounds width (now ends) × Noted width (now ends) (now out) (now starts) (now ticks) × Ahead width 2048 (now ends) (now out) ⌝ }
-    ensures { λ _. ⌜ now (out .exit) ≡ splice (now (out .entry)) 22 (windowBytes 0 (eventsTo width (now (ends .entry)) (now (out .entry)) 2048)) ⌝ }
+    requires { ⌜ (first < 2048) × Tables (now ends) (now a) (now starts) (now ticks) × Bounds width (now ends) × Noted width first (getD (now starts) first 0) (getD (now ticks) first 0) (now ends) (now out) (now starts) (now ticks) × Ahead width first (getD (now starts) first 0) (getD (now ticks) first 0) 2048 (now ends) (now out) ⌝ }
+    ensures { λ _. ⌜ now (out .exit) ≡ splice (now (out .entry)) (getD (now (starts .entry)) first 0) (windowBytes (getD (now (ticks .entry)) first 0) (eventsTo width (now (ends .entry)) (now (out .entry)) first 2048)) ⌝ }
 {
     let mut v: usize = 2048;
-    while 0 < v {
+    while first < v {
         v -= 1;
         put_bucket(out, v, width, ends, a, starts, ticks);
     }

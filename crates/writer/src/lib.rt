@@ -5,6 +5,7 @@ pub mod few;
 pub mod files;
 pub mod many;
 pub mod stored;
+pub mod tight;
 pub mod tracks;
 pub mod wide;
 pub mod windows;
