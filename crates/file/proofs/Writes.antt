@@ -2,18 +2,20 @@
 use mathlib.Core.Path.{_≡_, refl, sym, ap, _∙_}
 use mathlib.Core.Bool.{Bool, true, false, cond, not}
 use mathlib.Core.List.{List, [], _∷_}
-use Prim.Native.Nat.{ℕ, zero, suc, _+_, _-_, _<_}
+use Prim.Native.Nat.{ℕ, zero, suc, _+_, _-_, _≤_, _<_}
 use native.Mathlib.Nat.{not-suc-le-zero}
 use native.Mathlib.Omega.{arith}
-use borrow.Author.Tests.{lt-ltb, not-true, not-false}
+use borrow.Author.Tests.{lt-ltb, lt-leb, not-true, not-false}
 use lib.Dec.{leb, ltb}
-use lib.ListN.{length, take, drop}
+use lib.ListN.{length, take, drop, length-append}
 use Rattle.words.specs.Splice.{splice}
 use Rattle.model.specs.Questions.{headerOk, firstNo}
 use Rattle.model.specs.Session.{headerOf, wordsOfHeader, shelf, shelfAt}
 use Rattle.model.specs.Soundness.{soundShelf}
+use Rattle.model.specs.Takes.{word, notesIn}
 use Rattle.model.specs.declared.Header.{Header}
 use Rattle.model.proofs.Headers.{InRange, in-range}
+use Rattle.midi.specs.Writing.{headerBytes, trackBytes, fileBytes}
 use Rattle.session.proofs.Entries.{Entered}
 use Rattle.session.proofs.Sources.{part-is, part-long}
 use Rattle.session.specs.Entering.{entryOf, entryAsked}
@@ -68,6 +70,18 @@ write-refused s i out q e = go (headerOk (headerOf s) (length s)) (ltb i ((heade
     go true false ea eb e = both 2 (ap (λ (p : ℕ × List ℕ). p .0) e) (number-is s i (length out) ∙ rw (ea, eb)) (omega arith)
     go false b ea eb e = both 1 (ap (λ (p : ℕ × List ℕ). p .0) e) (number-is s i (length out) ∙ rw ea) (omega arith)
 
+-- ---- no file is shorter than its header
+
+header-long : (δ n : ℕ) → length (headerBytes δ n) ≡ 22
+unfolding headerBytes
+header-long δ n = refl
+
+file-long : (h : Header) (ws : List ℕ) → 22 ≤ length (fileIn h ws)
+unfolding fileBytes
+file-long h ws =
+    let track = trackBytes (h .delta) (word ws 0) (notesIn ws) in
+    omega (arith, length-append (headerBytes (h .delta) (length track)) track, header-long (h .delta) (length track))
+
 -- ---- questions 1 and 2 answered yes
 
 module _ (s : List ℕ) (i : ℕ) (h : Header) (e : Entered s i h) (out : List ℕ) where
@@ -88,6 +102,12 @@ module _ (s : List ℕ) (i : ℕ) (h : Header) (e : Entered s i h) (out : List �
 
   pub write-unsound : {o : Bool} → o ≡ soundShelf h (shelf h s i) → not o ≡ true → Wrote s i out 4 0 out
   write-unsound {o} f t = wrote-refused s i out 4 (sym (entered-number ∙ rw (sym f ∙ not-true o t))) (omega arith)
+
+  -- the output is shorter than the header of a file
+  pub write-short : {o : Bool} → o ≡ soundShelf h (shelf h s i) → o ≡ true → length out < 22 → Wrote s i out 15 0 out
+  write-short f t short =
+      wrote-refused s i out 15
+      (sym (entered-number ∙ rw (sym f ∙ t, lt-leb (length file) (length out) (omega (arith, short, file-long h (shelf h s i)))))) (omega arith)
 
   module _ {o : Bool} (f : o ≡ soundShelf h (shelf h s i)) (t : not o ≡ false) (a : PartAsks h (shelf h s i)) {r : ℕ} {after : List ℕ}
       (counts : r ≡ countOf file out) (leaves : after ≡ outputOf file out) where
