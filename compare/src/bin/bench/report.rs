@@ -43,8 +43,8 @@ pub fn document(rows: &[Row], machine: &str) -> String {
 const HEAD: &str = "# Benchmark
 
 `make bench` times the proved calls against the second implementation of `reference/`, which puts the same questions
-and is compiled at its best. Both get the same words in turn, in one run, and the best time of each counts. It prints
-the table and writes this page and its picture anew.
+and is compiled at its best. Both get the same words in the same memory in turn, in one run, and the best time of each
+counts. It prints the table and writes this page and its picture anew.
 
 A recording has so many notes in so many lanes, 480 ticks to the beat, notes of a tick to a beat with rests between
 them. W is tight, just what the recording takes, or the most that a shelf may have, 1,048,576 words. Split cuts the

@@ -22,6 +22,13 @@ const ROUNDS: [f64; 2] = [3.0, 400.0];
 /// Seconds that one measured time has at least, about.
 const LEAST_SECONDS: f64 = 50e-6;
 
+/// The places where both implementations are timed, and where words are copied and set to zero.
+const TIMED: usize = 2;
+const MOVED: usize = 3;
+
+/// Who comes when in a round: both implementations several times, since each leaves the words in the cache for the next.
+const TURNS: [usize; 8] = [0, 1, 0, 1, 1, 0, 2, 3];
+
 /// What the columns are called.
 pub const COLUMNS: [&str; 10] = [
     "notes",
@@ -37,19 +44,22 @@ pub const COLUMNS: [&str; 10] = [
 ];
 
 impl Row {
-    /// Times a call by all sides in turn; of each the best time counts.
+    /// Times a call by all sides in turn; of each the best time counts. Each side does it once in a place of its
+    /// own, where what it leaves can be compared; then both are timed in one place, since where memory lies
+    /// decides more than who uses it.
     pub fn measure(size: Size, call: Call, recording: &Recording, places: &mut [Place; 4]) -> Row {
-        let once: f64 = Side::ALL
+        let once: f64 = [0, 1, MOVED, MOVED]
             .iter()
-            .zip(places.iter_mut())
-            .map(|(&side, place)| time(call, side, 1, recording, place))
+            .zip(Side::ALL)
+            .map(|(&place, side)| time(call, side, 1, recording, &mut places[place]))
             .sum();
         let runs = (4.0 * LEAST_SECONDS / once).clamp(1.0, 1_000.0) as u32;
         let rounds = (ROW_SECONDS / (once * f64::from(runs))).clamp(ROUNDS[0], ROUNDS[1]) as u32;
         let mut best = [f64::MAX; 4];
         for _ in 0..rounds {
-            for (which, &side) in Side::ALL.iter().enumerate() {
-                let seconds = time(call, side, runs, recording, &mut places[which]);
+            for which in TURNS {
+                let place = [TIMED, TIMED, MOVED, MOVED][which];
+                let seconds = time(call, Side::ALL[which], runs, recording, &mut places[place]);
                 best[which] = best[which].min(seconds);
             }
         }
