@@ -12,8 +12,8 @@
  * (and written, where it is not const) and that no other argument shares; with
  * a length of 0 the pointer is not looked at.
  *
- * The calls allocate nothing, keep nothing between calls, and may run at the
- * same time on different sessions.
+ * The calls allocate nothing, take less than 64 KB of stack, keep nothing
+ * between calls, and may run at the same time on different sessions.
  */
 #ifndef ZIKOREWI_H
 #define ZIKOREWI_H
