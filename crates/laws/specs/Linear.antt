@@ -48,7 +48,7 @@ line-sound H beats le cells e f =
     line-from H le (sound-pieced (H .delta) beats cells (all-imp (λ c. cellOk (H .delta) beats c ≡ true) (Fine (H .delta) beats) cells (λ c. fine-of (H .delta) beats c) (every-all (cellOk (H .delta) beats) cells e)) f)
 
 -- cells that passed lie apart
-cells-apart-of : (δ beats : ℕ) (cells : List Cell) → every (cellOk δ beats) cells ≡ true → cellsSound δ cells ≡ true → Pairs (Apart δ) cells
+pub cells-apart-of : (δ beats : ℕ) (cells : List Cell) → every (cellOk δ beats) cells ≡ true → cellsSound δ cells ≡ true → Pairs (Apart δ) cells
 cells-apart-of δ beats cells e f = sound-apart δ beats cells (all-imp (λ c. cellOk δ beats c ≡ true) (Fine δ beats) cells (λ c. fine-of δ beats c) (every-all (cellOk δ beats) cells e)) f
 
 -- the last two tests may use that the ones before them passed

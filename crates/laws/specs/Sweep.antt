@@ -1,17 +1,19 @@
 -- One sweep over the inner notes and the cells tells whether their pieces are clear of each other.
 -- Assumes nothing.
-use mathlib.Core.Bool.{Bool, _&&_, _||_, false, true, true≢false}
+use mathlib.Core.Bool.{Bool, _&&_, _||_, cond, false, true, true≢false}
 use mathlib.Core.List.{List, [], _∷_}
 use mathlib.Core.Path.{_∙_, _≡_, ap, ap₂, refl, sym}
-use Prim.Native.Nat.{_<_, _≤_, ℕ}
+use Prim.Native.Nat.{_*_, _+_, _<_, _≤_, suc, ℕ}
+use native.Mathlib.Nat.{mul-le-mul-right}
 use native.Mathlib.Omega.{arith}
 use lib.Dec.{eqb, ltb}
 use borrow.Author.Tests.{eq-eqb, eqb-true, ltb-false, ltb-true}
+use Rattle.model.specs.Binding.{endOf, opening}
 use Rattle.model.specs.Lists.{every}
 use Rattle.model.specs.Pieces.{firstBeat}
 use Rattle.model.specs.declared.Cell.{Cell}
 use Rattle.model.specs.declared.Note.{Note}
-use Rattle.laws.specs.Beats.{div-mono}
+use Rattle.laws.specs.Beats.{div-mono, high}
 use Rattle.laws.specs.Booleans.{and-left, and-right}
 use Rattle.laws.specs.Chain.{clear}
 use Rattle.laws.specs.ChainSolid.{clear-is}
@@ -164,3 +166,47 @@ module _ (δ : ℕ) (z : 0 < δ) where
       ap₂ _&&_ (skip-clear l b n cs (own-from n) ∙ skip-two n cs s)
       (every-same (λ m. every (clear δ m) cs) (λ m. every (clear δ m) ds) ns (all-imp (Follow n) (λ m. every (clear δ m) cs ≡ every (clear δ m) ds) ns (λ m g. skip-clear l b m cs (follow-from n m (v .0) g)) (f .0))
       ∙ sweep-all ns ds (v .1) (f .1) (skip-pairs l b cs s))
+
+  -- a cell that every note is clear of may be left out of the sweep
+  pub sweep-without : (c : Cell) (cs : List Cell) (ns : List Note) → All (λ n. n .start < n .end) ns → Pairs Follow ns → Pairs (Apart δ) (c ∷ cs)
+      → All (λ n. clear δ n c ≡ true) ns → sweep δ ns (c ∷ cs) ≡ sweep δ ns cs
+  sweep-without c cs ns v f s a =
+      sym (sweep-all ns (c ∷ cs) v f s)
+      ∙ every-same (λ n. every (clear δ n) (c ∷ cs)) (λ n. every (clear δ n) cs) ns (all-imp (λ n. clear δ n c ≡ true) (λ n. every (clear δ n) (c ∷ cs) ≡ every (clear δ n) cs) ns (λ n e. rw e) a)
+      ∙ sweep-all ns cs v f (s .1)
+
+  -- ---- behind a note that ends with the piece of cell d
+
+  module _ (n m : Note) (d : Cell) (l : n .lane ≡ d .lane) (e : n .end ≡ endOf δ d) (f : Follow n m) where
+    -- a later note of the lane starts where the piece ends, or later
+    from-end : m .lane ≡ d .lane → endOf δ d ≤ m .start
+    from-end k = go f
+      where
+        go : Follow n m → endOf δ d ≤ m .start
+        go (above a) = absurd (omega arith)
+        go (later a b) = omega arith
+
+    from-line : m .lane ≡ d .lane → d .beat * δ ≤ m .start
+    unfolding endOf
+    from-line k = go (opening d) (from-end k)
+      where
+        go : (o : Bool) → cond o (d .beat * δ + d .after) (suc (d .beat) * δ) ≤ m .start → d .beat * δ ≤ m .start
+        go true h = omega arith
+        go false h = omega arith
+
+    -- such a note is clear of that piece, and of each before it
+    pub clear-of-last : clear δ m d ≡ true
+    unfolding endOf
+    clear-of-last = clear-is δ m d (record {
+      behind = λ p q o. rw o at (from-end p);
+      before = λ p q o. let h : suc (d .beat) * δ ≤ m .start = rw o at (from-end p) in let t : m .start < suc (d .beat) * δ = rw q at (high δ z (m .start)) in absurd (omega arith);
+    })
+
+    pub clear-of-earlier : (c : Cell) → Apart δ c d → clear δ m c ≡ true
+    unfolding endOf
+    clear-of-earlier c a = else-clear m c (λ p q. go p (rw q at (high δ z (m .start))) a)
+      where
+        go : m .lane ≡ c .lane → m .start < suc (c .beat) * δ → Apart δ c d → ⊥
+        go p t (lane-up h) = elim f [ above i ↦ omega arith | later i j ↦ omega arith ]
+        go p t (beat-up h i) = let u = from-line (p ∙ h) in let v : suc (c .beat) * δ ≤ d .beat * δ = mul-le-mul-right δ i in omega arith
+        go p t (side-up h i s k u) = let v : suc (d .beat) * δ ≤ m .start = rw k at (from-end (p ∙ h)) in let w : c .beat * δ ≡ d .beat * δ = ap (λ (b : ℕ). b * δ) i in omega arith

@@ -1,19 +1,21 @@
 -- The notes that cells give, run by run, and the notes of a shelf beside the cells. Assumes nothing.
-use mathlib.Core.Path.{_≡_, refl, sym, _∙_}
+use mathlib.Core.Path.{_≡_, refl, sym, ap, _∙_}
 use mathlib.Core.Bool.{Bool, true, false, not, _&&_, _||_, and-false, and-assoc, true≢false}
-use mathlib.Core.List.{List, [], _∷_}
+use mathlib.Core.List.{List, [], _∷_, head-eq-of-cons-eq}
 use mathlib.Core.Option.{none, some}
 use Prim.Native.Nat.{ℕ}
+use borrow.Author.Tests.{eqb-true, not-true}
 use lib.Dec.{eqb}
-use Rattle.model.specs.Binding.{standsAlone, endOf}
+use Rattle.model.specs.Binding.{standsAlone, meet, bound, boundNext, fills, endOf}
 use Rattle.model.specs.Lists.{keep, gather}
 use Rattle.model.specs.Pieces.{firstBeat, inside}
-use Rattle.model.specs.Soundness.{sameWords}
+use Rattle.model.specs.Soundness.{cellBefore, partners, sameWords}
 use Rattle.model.specs.Takes.{noteWords}
 use Rattle.model.specs.declared.Header.{Header}
 use Rattle.model.specs.declared.Note.{Note}
 use Rattle.model.specs.declared.Cell.{Cell}
-use Rattle.laws.specs.Booleans.{or-right}
+use Rattle.laws.specs.Booleans.{and-left, and-right, or-right}
+use Rattle.laws.specs.Chain.{neighbours, cellsChain}
 use Rattle.laws.specs.Rules.{own}
 use Rattle.laws.specs.Sweep.{skip, clearTwo, sweep}
 use Rattle.laws.specs.Walk.{linked, grown, walkFrom}
@@ -89,6 +91,35 @@ module _ (h : Header) where
     pub gives-note : (c d : Cell) (more rest : List Cell) → first ≡ c ∷ more → last ≡ d ∷ rest → walkFrom h none cs ≡ noteOfRun (h .delta) c d ∷ walkFrom h none rest
     unfolding noteOfRun own
     gives-note c d more rest p q = by-places ∙ rw (p, q)
+
+-- ---- a run stays in its lane
+
+module _ (h : Header) where
+  -- two cells that are linked are of one lane
+  linked-lane : (c d : Cell) (ds : List Cell) → neighbours (h .delta) c d ≡ true → linked h c (d ∷ ds) ≡ true → d .lane ≡ c .lane
+  unfolding neighbours partners linked boundNext meet
+  linked-lane c d ds e l = go (fills (h .delta) c) refl l
+    where
+      go : (t : Bool) → fills (h .delta) c ≡ t → t || (meet c d && bound h c d) ≡ true → d .lane ≡ c .lane
+      go true f k = sym (eqb-true _ _ (and-left _ _ (and-left _ _ (and-left _ _ (and-left _ _ (and-left _ _ (and-left _ _ (rw f at (and-right (cellBefore c d) _ e)))))))))
+      go false f k = sym (eqb-true _ _ (and-left _ _ (and-left _ _ (and-left _ _ (and-left _ _ k)))))
+
+  goes-on : (c : Cell) (cs : List Cell) → linked h c cs ≡ true → fromLast h (c ∷ cs) ≡ fromLast h cs
+  unfolding fromLast
+  goes-on c cs l = rw (l, fromLast)
+
+  ends : (c : Cell) (cs : List Cell) → linked h c cs ≡ false → fromLast h (c ∷ cs) ≡ c ∷ cs
+  unfolding fromLast
+  ends c cs l = rw (l, fromLast)
+
+  pub run-lane : (c : Cell) (cs : List Cell) → cellsChain (h .delta) c cs ≡ true → (d : Cell) (ds : List Cell) → fromLast h (c ∷ cs) ≡ d ∷ ds → d .lane ≡ c .lane
+  unfolding cellsChain linked boundNext
+  run-lane c [] s d ds e = let l : linked h c [] ≡ false = rw (not-true (fills (h .delta) c) s) in ap (λ (x : Cell). x .lane) (head-eq-of-cons-eq (sym e ∙ ends c [] l))
+  run-lane c (x ∷ xs) s d ds e = go (linked h c (x ∷ xs)) refl (run-lane x xs (and-right (neighbours (h .delta) c x) (cellsChain (h .delta) x xs) s) d ds)
+    where
+      go : (t : Bool) → linked h c (x ∷ xs) ≡ t → (fromLast h (x ∷ xs) ≡ d ∷ ds → d .lane ≡ x .lane) → d .lane ≡ c .lane
+      go true l ih = ih (sym (goes-on c (x ∷ xs) l) ∙ e) ∙ linked-lane c x xs (and-left (neighbours (h .delta) c x) (cellsChain (h .delta) x xs) s) l
+      go false l ih = ap (λ (y : Cell). y .lane) (head-eq-of-cons-eq (sym e ∙ ends c (x ∷ xs) l))
 
 -- ---- a note beside the cells
 

@@ -4,10 +4,12 @@ ghost use mathlib.Core.Bool.{true, false, _&&_};
 ghost use Prim.Native.Nat.{_+_, _*_, _<_, _≤_};
 ghost use lib.ListN.{length};
 ghost use Rattle.model.specs.Limits.{maxBeats, maxDelta, minWords};
+ghost use Rattle.model.specs.Lists.{every};
 ghost use Rattle.model.specs.Pieces.{firstBeat, inside};
 ghost use Rattle.model.specs.Soundness.{noteOk, follows, soundShelf};
 ghost use Rattle.model.specs.Takes.{wordsUsed};
-ghost use Rattle.session.specs.Checking.{Passes, notesAsked};
+ghost use Rattle.laws.specs.Chain.{cellOk, cellsSound};
+ghost use Rattle.session.specs.Checking.{RunFound, Passes, notesAsked};
 ghost use Rattle.session.specs.Dividing.{reciprocalOf};
 ghost use Rattle.session.specs.Reading.{lastNotes, lastCells};
 use crate::beats;
@@ -52,9 +54,38 @@ fn pass_inner(
     }
 }
 
+// The note and a run of cells: is it the run's note? The notes behind it lie behind the run, so the search beside them goes on there.
+fn pass_run(
+    h: Header,
+    part: &[u32],
+    end: usize,
+    n: Note,
+    beside: usize,
+    line: usize,
+    first: usize,
+    last: usize,
+) -> Passed
+    requires { ⌜ (6 * beside ≤ end) × (6 * line ≤ end) × (end ≤ length (now part)) × (0 < h .delta) × (inside (h .delta) n ≡ false) × RunFound h (now part) end line first last × (0 < last) ⌝ }
+    ensures { λ r. ⌜ Passes h (now (part .entry)) end n beside line r ⌝ }
+{
+    let c = notes::cell_at(part, end - 6 * first);
+    let d = notes::cell_at(part, end - 6 * last);
+    let right = runs::is_note_of_run(h.delta, n, c, d);
+    let behind = last - 1;
+    let mut next = beside;
+    if behind < beside {
+        next = behind;
+    }
+    Passed {
+        right,
+        beside: next,
+        line: behind,
+    }
+}
+
 // A note touching or crossing a line: is it the next run of the cells?
 fn pass_line(h: Header, part: &[u32], end: usize, n: Note, beside: usize, line: usize) -> Passed
-    requires { ⌜ (6 * line ≤ end) × (end ≤ length (now part)) × (inside (h .delta) n ≡ false) ⌝ }
+    requires { ⌜ (6 * beside ≤ end) × (6 * line ≤ end) × (end ≤ length (now part)) × (0 < h .delta) × (inside (h .delta) n ≡ false) ⌝ }
     ensures { λ r. ⌜ Passes h (now (part .entry)) end n beside line r ⌝ }
 {
     let first = runs::first_of_run(h, part, end, line);
@@ -66,14 +97,7 @@ fn pass_line(h: Header, part: &[u32], end: usize, n: Note, beside: usize, line: 
             line,
         };
     }
-    let c = notes::cell_at(part, end - 6 * first);
-    let d = notes::cell_at(part, end - 6 * last);
-    let right = runs::is_note_of_run(h.delta, n, c, d);
-    Passed {
-        right,
-        beside,
-        line: last - 1,
-    }
+    pass_run(h, part, end, n, beside, line, first, last)
 }
 
 // Does the note stand rightly beside the cells?
@@ -107,9 +131,9 @@ fn in_order(delta: u32, beats: u32, last: Note, n: Note) -> bool
     notes::note_follows(last, n)
 }
 
-// What is asked of the notes: ranges, order, and that they stand rightly beside the cells.
+// What is asked of the notes beside cells that passed: ranges, order, and that they stand rightly beside them.
 pub fn notes_ok(h: Header, beats: u32, part: &[u32], notes: usize, cells: usize) -> bool
-    requires { ⌜ (0 < h .delta) × (h .delta ≤ maxDelta) × (beats ≤ maxBeats) × (wordsUsed notes cells ≤ length (now part)) ⌝ }
+    requires { ⌜ (0 < h .delta) × (h .delta ≤ maxDelta) × (beats ≤ maxBeats) × (wordsUsed notes cells ≤ length (now part)) × (every (cellOk (h .delta) beats) (lastCells (now part) (wordsUsed notes cells) cells) && cellsSound (h .delta) (lastCells (now part) (wordsUsed notes cells) cells) ≡ true) ⌝ }
     ensures { λ r. ⌜ r ≡ notesAsked h beats (lastNotes (now (part .entry)) (3 + 4 * notes) notes) (lastCells (now (part .entry)) (wordsUsed notes cells) cells) ⌝ }
 {
     let reciprocal = beats::reciprocal(h.delta);

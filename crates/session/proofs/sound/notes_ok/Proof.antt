@@ -30,7 +30,7 @@ before-all-requires : tie.Need-before-all-requires Inv-loop μ-loop
 before-all-requires c κs = search needs
 
 loop-holds : tie.Need-loop-holds Inv-loop μ-loop
-loop-holds c = asking-all _ _ _ _ _ _ _ (c .before-all .ensures)
+loop-holds c = asking-all _ _ _ _ _ _ _ (c .before-all .ensures) (c .before .before .before .pre .4)
 
 mul-note-at : tie.Need-mul-note-at Inv-loop μ-loop
 mul-note-at c = search needs
@@ -51,7 +51,7 @@ pass-requires : tie.Need-pass-requires Inv-loop μ-loop
 pass-requires c κs = search (start-within, needs)
 
 returns-2 : tie.Need-returns-2 Inv-loop μ-loop
-returns-2 c = not-right _ _ _ _ _ _ _ (c .before .before .before .before .before .before .before .loop .inv) (c .before .before .before .before .before .before .loop-test .taken) (omega (arith, c .before .before .before .before .before .before .before .loop .inv .notes-left)) (c .before .before .before .before .before .note-at .ensures) (c .before .before .before .before .in-order .ensures) (c .before .before .before .if1 .left) (c .before .before .pass .ensures) (c .if2 .taken)
+returns-2 c = not-right _ _ _ _ _ _ _ (c .before .before .before .before .before .before .before .loop .inv) (c .before .before .before .before .before .before .loop-test .taken) (omega (arith, c .before .before .before .before .before .before .before .loop .inv .notes-left)) (c .before .before .before .before .before .note-at .ensures) (c .before .before .before .before .in-order .ensures) (c .before .before .before .if1 .left) (c .before .before .pass .ensures) (omega arith) (c .if2 .taken)
 
 sub-left : tie.Need-sub-left Inv-loop μ-loop
 sub-left c = search needs
@@ -60,7 +60,7 @@ loop-less : tie.Need-loop-less Inv-loop μ-loop
 loop-less c = search needs
 
 loop-again : tie.Need-loop-again Inv-loop μ-loop
-loop-again c = asking-next _ _ _ _ _ _ _ (c .before .before .before .before .before .before .before .loop .inv) (c .before .before .before .before .before .before .loop-test .taken) (omega (arith, c .before .before .before .before .before .before .before .loop .inv .notes-left)) (c .before .before .before .before .before .note-at .ensures) (c .before .before .before .before .in-order .ensures) (c .before .before .before .if1 .left) (c .before .before .pass .ensures) (c .if2 .left)
+loop-again c = asking-next _ _ _ _ _ _ _ (c .before .before .before .before .before .before .before .loop .inv) (c .before .before .before .before .before .before .loop-test .taken) (omega (arith, c .before .before .before .before .before .before .before .loop .inv .notes-left)) (c .before .before .before .before .before .note-at .ensures) (c .before .before .before .before .in-order .ensures) (c .before .before .before .if1 .left) (c .before .before .pass .ensures) (omega arith) (c .if2 .left)
 
 gives-none-requires : tie.Need-gives-none-requires Inv-loop μ-loop
 gives-none-requires c κs = search needs

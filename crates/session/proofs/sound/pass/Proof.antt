@@ -17,7 +17,7 @@ returns : tie.Need-returns
 returns c = search needs
 
 pass-line-requires : tie.Need-pass-line-requires
-pass-line-requires c κs = (c .before .before .before .before .pre .1, c .before .before .before .before .pre .2, sym (c .before .is-inside .ensures) ∙ c .if1 .left)
+pass-line-requires c κs = (c .before .before .before .before .pre .0, c .before .before .before .before .pre .1, c .before .before .before .before .pre .2, c .before .before .before .before .pre .3, sym (c .before .is-inside .ensures) ∙ c .if1 .left)
 
 returns-2 : tie.Need-returns-2
 returns-2 c = search needs

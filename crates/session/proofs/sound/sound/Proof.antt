@@ -1,5 +1,7 @@
 -- `session::sound::sound` meets its contract. Assumes nothing.
+use mathlib.Core.Path.{sym, _∙_}
 use native.Mathlib.Omega.{arith}
+use borrow.Author.Tests.{not-false}
 use Rattle.session.proofs.Shelves.{laid, not-laid, cells-wrong, by-notes}
 use borrow.Author.Needs.{needs}
 use Rattle.session.proofs.sound.sound.Statement.{statement}
@@ -42,7 +44,7 @@ returns-2 : tie.Need-returns-2
 returns-2 c = cells-wrong _ _ (c .before .before .before .before .before .before .before .before .before .before .before .pre .0) (c .before .before .before .before .before .before .before .before .before .before .before .pre .2) (c .before .before .before .before .before .before .before .before .before .before .before .pre .4) (c .before .before .before .before .before .before .before .before .before .layout-ok .ensures) (c .before .before .before .before .before .before .before .before .if1 .left) (rw (c .before .before .words-used .ensures) at (c .before .cells-ok .ensures)) (c .if2 .taken)
 
 notes-ok-requires : tie.Need-notes-ok-requires
-notes-ok-requires c κs = let l = laid (c .before .before .before .before .before .before .before .before .before .before .before .args .part .now) (c .before .before .before .before .before .before .before .before .before .layout-ok .ensures) (c .before .before .before .before .before .before .before .before .if1 .left) in (c .before .before .before .before .before .before .before .before .before .before .before .pre .0, c .before .before .before .before .before .before .before .before .before .before .before .pre .1, l .few, l .fits)
+notes-ok-requires c κs = let l = laid (c .before .before .before .before .before .before .before .before .before .before .before .args .part .now) (c .before .before .before .before .before .before .before .before .before .layout-ok .ensures) (c .before .before .before .before .before .before .before .before .if1 .left) in (c .before .before .before .before .before .before .before .before .before .before .before .pre .0, c .before .before .before .before .before .before .before .before .before .before .before .pre .1, l .few, l .fits, rw (c .before .before .words-used .ensures) at (sym (c .before .cells-ok .ensures) ∙ not-false _ (c .if2 .left)))
 
 returns-3 : tie.Need-returns-3
 returns-3 c = by-notes _ _ (c .before .before .before .before .before .before .before .before .before .before .before .before .pre .0) (c .before .before .before .before .before .before .before .before .before .before .before .before .pre .2) (c .before .before .before .before .before .before .before .before .before .before .before .before .pre .4) (c .before .before .before .before .before .before .before .before .before .before .layout-ok .ensures) (c .before .before .before .before .before .before .before .before .before .if1 .left) (rw (c .before .before .before .words-used .ensures) at (c .before .before .cells-ok .ensures)) (c .before .if2 .left) (c .notes-ok .ensures)
