@@ -8,7 +8,7 @@ use std::hint::black_box;
 use std::time::Instant;
 
 /// How many cuts a run of cuts has.
-const CUTS: u32 = 300;
+pub const CUTS: usize = 300;
 
 /// What is timed.
 #[derive(Clone, Copy, PartialEq)]
@@ -40,7 +40,7 @@ impl Call {
     /// How many calls one run of it makes: a cut is two splits and a join.
     pub fn calls(self) -> u32 {
         if self == Call::Cuts {
-            3 * CUTS
+            3 * CUTS as u32
         } else {
             1
         }
@@ -52,7 +52,7 @@ impl Call {
             Call::Lay | Call::Join | Call::Load => recording.shelf_words(),
             Call::Split => 2 * recording.shelf_words(),
             Call::Write => recording.file.len().div_ceil(4),
-            Call::Cuts => CUTS as usize * 5 * recording.shelf_words(),
+            Call::Cuts => CUTS * 5 * recording.shelf_words(),
         }
     }
 }
@@ -100,33 +100,27 @@ impl Place {
             (Call::Load, false) => reference::load(session, 3, &recording.file),
             (Call::Write, true) => engine::write(session, 0, output, &mut count),
             (Call::Write, false) => reference::write(session, 0, output, &mut count),
-            (Call::Cuts, _) => return self.cuts(side, recording.beats),
+            (Call::Cuts, _) => return cuts(recording.beats).for_each(|cut| self.cut(side, cut)),
         };
         assert_eq!(number, 0, "{} is accepted", call.name());
     }
 
-    /// Cuts random beats out of the recording, each time another part of it:
-    /// split at the second beat, split the left part at the first, join.
-    fn cuts(&mut self, side: Side, beats: u32) {
-        let random = &mut Random::new(u64::from(beats));
+    /// Cuts the beats between two out of the recording: split at the second, split the left part at the first, join.
+    fn cut(&mut self, side: Side, [first, second]: [u32; 2]) {
         let session = &mut self.session[..];
-        for _ in 0..CUTS {
-            let second = random.below(beats + 1);
-            let first = random.below(second + 1);
-            let numbers = match side {
-                Side::Proved => [
-                    engine::split(session, 0, second, 1, 2),
-                    engine::split(session, 1, first, 3, 4),
-                    engine::join(session, 3, 2, 5),
-                ],
-                _ => [
-                    reference::split(session, 0, second, 1, 2),
-                    reference::split(session, 1, first, 3, 4),
-                    reference::join(session, 3, 2, 5),
-                ],
-            };
-            assert_eq!(numbers, [0; 3], "the cut is made");
-        }
+        let numbers = match side {
+            Side::Proved => [
+                engine::split(session, 0, second, 1, 2),
+                engine::split(session, 1, first, 3, 4),
+                engine::join(session, 3, 2, 5),
+            ],
+            _ => [
+                reference::split(session, 0, second, 1, 2),
+                reference::split(session, 1, first, 3, 4),
+                reference::join(session, 3, 2, 5),
+            ],
+        };
+        assert_eq!(numbers, [0; 3], "the cut is made");
     }
 
     /// Copies words to behind them, or sets them to zero, shelf by shelf.
@@ -158,4 +152,20 @@ pub fn time(call: Call, side: Side, runs: u32, recording: &Recording, place: &mu
         }
     }
     start.elapsed().as_secs_f64() / f64::from(runs)
+}
+
+/// The random beats that a run of cuts takes out, from where to where.
+pub fn cuts(beats: u32) -> impl Iterator<Item = [u32; 2]> {
+    let mut random = Random::new(u64::from(beats));
+    (0..CUTS).map(move |_| {
+        let second = random.below(beats + 1);
+        [random.below(second + 1), second]
+    })
+}
+
+/// The seconds of one cut by one side.
+pub fn time_cut(side: Side, cut: [u32; 2], place: &mut Place) -> f64 {
+    let start = Instant::now();
+    place.cut(side, cut);
+    start.elapsed().as_secs_f64()
 }

@@ -1,6 +1,6 @@
 //! One row of the table.
 
-use crate::calls::{time, Call, Place, Side};
+use crate::calls::{cuts, time, time_cut, Call, Place, Side, CUTS};
 use crate::recording::{Recording, Size};
 
 /// The best times of a call, in nanoseconds for each note.
@@ -29,6 +29,9 @@ const MOVED: usize = 3;
 /// Who comes when in a round: both implementations several times, since each leaves the words in the cache for the next.
 const TURNS: [usize; 8] = [0, 1, 0, 1, 1, 0, 2, 3];
 
+/// At least so many rounds of cuts: in one each implementation makes a cut first, in the next the other.
+const CUT_ROUNDS: u32 = 6;
+
 /// What the columns are called.
 pub const COLUMNS: [&str; 10] = [
     "notes",
@@ -43,6 +46,44 @@ pub const COLUMNS: [&str; 10] = [
     "× zeros",
 ];
 
+/// The best seconds of each side in so many rounds, in which the sides come in these turns.
+fn best_of(
+    turns: &[usize],
+    call: Call,
+    rounds: u32,
+    runs: u32,
+    recording: &Recording,
+    places: &mut [Place; 4],
+) -> [f64; 4] {
+    let mut best = [f64::MAX; 4];
+    for _ in 0..rounds {
+        for &which in turns {
+            let place = [TIMED, TIMED, MOVED, MOVED][which];
+            let seconds = time(call, Side::ALL[which], runs, recording, &mut places[place]);
+            best[which] = best[which].min(seconds);
+        }
+    }
+    best
+}
+
+/// The same for a run of cuts: the sum of the best seconds of each cut. Both implementations make a cut one right behind the other,
+/// since a run takes so long that other work on the machine would fall on one of them alone.
+fn best_of_cuts(rounds: u32, recording: &Recording, places: &mut [Place; 4]) -> [f64; 4] {
+    let mut best = [[f64::MAX; CUTS]; 2];
+    for round in 0..rounds.max(CUT_ROUNDS) as usize {
+        for (number, cut) in cuts(recording.beats).enumerate() {
+            for turn in 0..2 {
+                let which = (round + number + turn) % 2;
+                let seconds = time_cut(Side::ALL[which], cut, &mut places[TIMED]);
+                best[which][number] = best[which][number].min(seconds);
+            }
+        }
+    }
+    let [proved, second] = best.map(|cuts| cuts.iter().sum());
+    let [.., copy, zeros] = best_of(&[2, 3], Call::Cuts, CUT_ROUNDS, 1, recording, places);
+    [proved, second, copy, zeros]
+}
+
 impl Row {
     /// Times a call by all sides in turn; of each the best time counts. Each side does it once in a place of its
     /// own, where what it leaves can be compared; then both are timed in one place, since where memory lies
@@ -55,14 +96,10 @@ impl Row {
             .sum();
         let runs = (4.0 * LEAST_SECONDS / once).clamp(1.0, 1_000.0) as u32;
         let rounds = (ROW_SECONDS / (once * f64::from(runs))).clamp(ROUNDS[0], ROUNDS[1]) as u32;
-        let mut best = [f64::MAX; 4];
-        for _ in 0..rounds {
-            for which in TURNS {
-                let place = [TIMED, TIMED, MOVED, MOVED][which];
-                let seconds = time(call, Side::ALL[which], runs, recording, &mut places[place]);
-                best[which] = best[which].min(seconds);
-            }
-        }
+        let best = match call {
+            Call::Cuts => best_of_cuts(rounds, recording, places),
+            _ => best_of(&TURNS, call, rounds, runs, recording, places),
+        };
         // A run of cuts is given for one of its calls.
         let calls = f64::from(call.calls());
         let [proved, second, copy, zeros] =
