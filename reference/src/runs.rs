@@ -17,6 +17,11 @@ impl<'a> Runs<'a> {
         Runs { cells, at: 0, delta, epsilon }
     }
 
+    /// The cells not yet passed.
+    pub fn left(&self) -> &'a [Cell] {
+        &self.cells[self.at..]
+    }
+
     /// The cell behind `closing`, if it opens the next beat in the same lane
     /// and is bound to it. One more than a closing cell's place is that place.
     fn continues(&self, closing: &Cell) -> bool {

@@ -83,6 +83,10 @@ fn notes_sound(take: &Take, header: &Header) -> bool {
         if !right {
             return false;
         }
+        // Notes behind this one lie behind the runs so far.
+        if runs.left().len() < beside.len() {
+            beside = runs.left();
+        }
         last = *note;
     }
     runs.next().is_none()
