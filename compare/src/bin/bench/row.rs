@@ -26,8 +26,9 @@ const LEAST_SECONDS: f64 = 50e-6;
 const TIMED: usize = 2;
 const MOVED: usize = 3;
 
-/// Who comes when in a round: both implementations several times, since each leaves the words in the cache for the next.
-const TURNS: [usize; 8] = [0, 1, 0, 1, 1, 0, 2, 3];
+/// Who comes when in a round: each of two once behind itself and once behind the other, since each leaves words in
+/// the cache for the next.
+const TURNS: [usize; 4] = [0, 1, 1, 0];
 
 /// At least so many rounds of cuts: in one each implementation makes a cut first, in the next the other.
 const CUT_ROUNDS: u32 = 6;
@@ -46,42 +47,37 @@ pub const COLUMNS: [&str; 10] = [
     "× zeros",
 ];
 
-/// The best seconds of each side in so many rounds, in which the sides come in these turns.
+/// The best seconds of two sides in so many rounds, in one place.
 fn best_of(
-    turns: &[usize],
+    sides: [Side; 2],
     call: Call,
     rounds: u32,
     runs: u32,
     recording: &Recording,
-    places: &mut [Place; 4],
-) -> [f64; 4] {
-    let mut best = [f64::MAX; 4];
-    for _ in 0..rounds {
-        for &which in turns {
-            let place = [TIMED, TIMED, MOVED, MOVED][which];
-            let seconds = time(call, Side::ALL[which], runs, recording, &mut places[place]);
-            best[which] = best[which].min(seconds);
-        }
+    place: &mut Place,
+) -> [f64; 2] {
+    let mut best = [f64::MAX; 2];
+    for which in (0..rounds).flat_map(|_| TURNS) {
+        let seconds = time(call, sides[which], runs, recording, place);
+        best[which] = best[which].min(seconds);
     }
     best
 }
 
-/// The same for a run of cuts: the sum of the best seconds of each cut. Both implementations make a cut one right behind the other,
-/// since a run takes so long that other work on the machine would fall on one of them alone.
-fn best_of_cuts(rounds: u32, recording: &Recording, places: &mut [Place; 4]) -> [f64; 4] {
+/// The same for a run of cuts: the sum of the best seconds of each cut. Both implementations make a cut one right
+/// behind the other, since a run takes so long that other work on the machine would fall on one of them alone.
+fn best_of_cuts(rounds: u32, recording: &Recording, place: &mut Place) -> [f64; 2] {
     let mut best = [[f64::MAX; CUTS]; 2];
     for round in 0..rounds.max(CUT_ROUNDS) as usize {
         for (number, cut) in cuts(recording.beats).enumerate() {
             for turn in 0..2 {
                 let which = (round + number + turn) % 2;
-                let seconds = time_cut(Side::ALL[which], cut, &mut places[TIMED]);
+                let seconds = time_cut(Side::ALL[which], cut, place);
                 best[which][number] = best[which][number].min(seconds);
             }
         }
     }
-    let [proved, second] = best.map(|cuts| cuts.iter().sum());
-    let [.., copy, zeros] = best_of(&[2, 3], Call::Cuts, CUT_ROUNDS, 1, recording, places);
-    [proved, second, copy, zeros]
+    best.map(|cuts| cuts.iter().sum())
 }
 
 impl Row {
@@ -96,14 +92,18 @@ impl Row {
             .sum();
         let runs = (4.0 * LEAST_SECONDS / once).clamp(1.0, 1_000.0) as u32;
         let rounds = (ROW_SECONDS / (once * f64::from(runs))).clamp(ROUNDS[0], ROUNDS[1]) as u32;
-        let best = match call {
-            Call::Cuts => best_of_cuts(rounds, recording, places),
-            _ => best_of(&TURNS, call, rounds, runs, recording, places),
+        let [proved, second, copy, zeros] = Side::ALL;
+        let timed = &mut places[TIMED];
+        let [proved, second] = match call {
+            Call::Cuts => best_of_cuts(rounds, recording, timed),
+            _ => best_of([proved, second], call, rounds, runs, recording, timed),
         };
+        let [copy, zeros] =
+            best_of([copy, zeros], call, rounds, runs, recording, &mut places[MOVED]);
         // A run of cuts is given for one of its calls.
         let calls = f64::from(call.calls());
-        let [proved, second, copy, zeros] =
-            best.map(|seconds| seconds * 1e9 / f64::from(size.notes) / calls);
+        let [proved, second, copy, zeros] = [proved, second, copy, zeros]
+            .map(|seconds| seconds * 1e9 / f64::from(size.notes) / calls);
         Row { size, call, proved, second, copy, zeros }
     }
 
