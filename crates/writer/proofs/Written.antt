@@ -20,7 +20,7 @@ use Rattle.writer.specs.Files.{FileAsks, fileOf, countOf, outputOf}
 use Rattle.writer.specs.Tracks.{trackLeft}
 use Rattle.writer.proofs.Shelves.{track-is}
 
-header-length : (δ n : ℕ) → length (headerBytes δ n) ≡ 22
+pub header-length : (δ n : ℕ) → length (headerBytes δ n) ≡ 22
 unfolding headerBytes
 header-length δ n = refl
 
