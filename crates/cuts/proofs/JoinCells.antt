@@ -1,12 +1,12 @@
 -- The joined cells of two takes, written by one walk over both. Assumes nothing.
 use mathlib.Core.Path.{_≡_, refl, sym, ap, _∙_}
-use mathlib.Core.Bool.{Bool, true, false, cond}
-use mathlib.Core.List.{List, [], _∷_, _++_, map, append-nil, append-assoc}
+use mathlib.Core.Bool.{Bool, true, false}
+use mathlib.Core.List.{List, [], _∷_, _++_, map, append-assoc}
 use Prim.Native.Nat.{ℕ, zero, suc, _+_, _-_, _*_, _≤_, _<_}
 use native.Mathlib.Omega.{arith}
 use borrow.Author.Tests.{le-leb, lt-leb, leb-true, leb-false}
 use lib.Dec.{leb}
-use lib.ListN.{length, getD, length-append}
+use lib.ListN.{length, length-append}
 use Rattle.words.specs.Apart.{Apart, apart-within, apart-swap}
 use Rattle.words.specs.Parts.{Same}
 use Rattle.words.specs.Splice.{splice, length-splice, splice-append}

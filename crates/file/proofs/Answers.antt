@@ -1,13 +1,13 @@
 -- What the first pass's answer says of the track. Assumes nothing.
 use mathlib.Core.Path.{_≡_, refl}
-use Prim.Native.Nat.{ℕ, zero, suc}
+use Prim.Native.Nat.{ℕ}
 use native.Mathlib.Omega.{arith}
 use lib.ListN.{length}
 use Rattle.model.specs.Lists.{gather}
 use Rattle.model.specs.Pieces.{cellsOfNote}
 use Rattle.model.specs.Histories.{Recording}
 use Rattle.midi.specs.Reading.{FileAnswer, refused, read}
-use Rattle.file.specs.Counting.{Summary, refusal, recording, summary}
+use Rattle.file.specs.Counting.{refusal, recording, summary}
 
 -- A recording with so many beats, notes and cells.
 pub record ReadAs (δ : ℕ) (a : FileAnswer) (beats notes cells : ℕ) : Type 0 where

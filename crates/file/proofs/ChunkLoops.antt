@@ -2,7 +2,7 @@
 use mathlib.Core.Bool.{Bool, true, false, _&&_}
 use mathlib.Core.List.{List}
 use mathlib.Core.Path.{_≡_, refl, sym, ap, _∙_}
-use Prim.Native.Nat.{ℕ, suc, _+_, _-_, _≤_, _<_}
+use Prim.Native.Nat.{ℕ, _+_, _-_, _≤_, _<_}
 use native.Mathlib.Omega.{arith}
 use lib.Dec.{leb, eqb}
 use lib.ListN.{length, take, drop}
@@ -25,7 +25,7 @@ use Rattle.midi.specs.Reading.{
   readFile,
 }
 use Rattle.midi.proofs.Loops.{trackAfter, chunk-step, chunks-start}
-use Rattle.file.specs.Chunks.{TrackPlace, refusal, bytes, chunkPlace, trackPlace, readPlace}
+use Rattle.file.specs.Chunks.{refusal, chunkPlace, trackPlace, readPlace}
 
 -- ---- the header
 

@@ -19,7 +19,7 @@ use Rattle.laws.specs.Healing.{notes-again, laid-words}
 use Rattle.laws.specs.OneNote.{Valid}
 use Rattle.laws.specs.Reading.{read-notes}
 use Rattle.laws.specs.Relations.{All, all-imp}
-use Rattle.midi.specs.Reading.{read, readTrack}
+use Rattle.midi.specs.Reading.{readTrack}
 use Rattle.midi.proofs.Ranges.{Fits, ok-fits}
 use Rattle.midi.proofs.Recordings.{track-sound}
 use Rattle.midi.proofs.SecondPass.{first-all}

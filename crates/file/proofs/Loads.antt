@@ -20,20 +20,7 @@ use Rattle.laws.specs.Booleans.{and-right}
 use Rattle.laws.specs.Healing.{notes-again}
 use Rattle.laws.specs.OneNote.{Valid}
 use Rattle.midi.specs.Numbers.{word32}
-use Rattle.midi.specs.Reading.{
-  FileAnswer,
-  refused,
-  read,
-  readTrack,
-  MTrk,
-  headerThere,
-  headerFits,
-  chunkThere,
-  Chunk,
-  track,
-  trackFrom,
-  readFile,
-}
+use Rattle.midi.specs.Reading.{FileAnswer, refused, read, readTrack, MTrk, headerThere, headerFits, chunkThere, Chunk, trackFrom, readFile}
 use Rattle.midi.proofs.Branches.{by-test}
 use Rattle.midi.proofs.Recordings.{track-sound, Sound, refused-number}
 use Rattle.session.proofs.Entries.{Entered}

@@ -22,6 +22,7 @@ use Rattle.session.specs.Entering.{entryOf, entryAsked}
 use Rattle.session.specs.declared.header.Entry.the-variants as entries
 use Rattle.file.specs.Calls.{shelfFile, fileFits, writeQuestions, writeNumber, writeCount, writeOutput}
 use Rattle.writer.proofs.Parts.{file-some}
+use Rattle.writer.proofs.Written.{header-length}
 use Rattle.writer.specs.Files.{PartAsks, fileIn, countOf, outputOf}
 
 -- ---- the number, the count and the output
@@ -72,15 +73,11 @@ write-refused s i out q e = go (headerOk (headerOf s) (length s)) (ltb i ((heade
 
 -- ---- no file is shorter than its header
 
-header-long : (δ n : ℕ) → length (headerBytes δ n) ≡ 22
-unfolding headerBytes
-header-long δ n = refl
-
 file-long : (h : Header) (ws : List ℕ) → 22 ≤ length (fileIn h ws)
 unfolding fileBytes
 file-long h ws =
     let track = trackBytes (h .delta) (word ws 0) (notesIn ws) in
-    omega (arith, length-append (headerBytes (h .delta) (length track)) track, header-long (h .delta) (length track))
+    omega (arith, length-append (headerBytes (h .delta) (length track)) track, header-length (h .delta) (length track))
 
 -- ---- questions 1 and 2 answered yes
 

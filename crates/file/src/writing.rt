@@ -21,7 +21,7 @@ pub extern "C" fn take_write(session: &[u32], shelf: u32, output: &mut [u8], cou
             let at = header::shelf_at(h, shelf);
             let end = at + (h.words as usize);
             // No file is shorter than its header. That question 4 stands in two places also keeps the compiler from putting it inside this
-            // function, where it takes a tenth longer.
+            // function, where a write takes a twentieth longer.
             if output.len() < 22 {
                 if sound::sound(h, &session[at..end]) {
                     return 15;

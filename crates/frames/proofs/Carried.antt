@@ -1,27 +1,26 @@
 -- The calls of frames: what each leaves, by the way that it goes. Assumes nothing.
 use mathlib.Core.Path.{_≡_, refl, sym, ap, _∙_}
-use mathlib.Core.Bool.{Bool, true, false, _&&_}
-use mathlib.Core.List.{List, [], _∷_, _++_}
+use mathlib.Core.Bool.{Bool, true, false}
+use mathlib.Core.List.{List, [], _++_}
 use Prim.Native.Nat.{ℕ, zero, suc, _+_, _-_, _*_, _/_, _%_, _≤_, _<_}
 use native.Mathlib.Nat.{mul-le-mul}
 use native.Mathlib.Omega.{arith}
 use borrow.Author.Tests.{le-leb, lt-leb, eq-eqb, ne-eqb, leb-true}
-use lib.Dec.{leb, eqb}
+use lib.Dec.{leb}
 use lib.ListN.{length, take, drop, replicate, length-append, length-replicate, length-drop, take-append-drop}
 use lib.Seq.{length-take-le, take-all}
 use Rattle.words.specs.Splice.{splice, splice-parts}
 use Rattle.words.specs.Parts.{part-splice-written}
-use Rattle.model.specs.Session.{headerOf, shelf, sessionLength, wordsOfHeader, freshWords}
+use Rattle.model.specs.Session.{sessionLength, wordsOfHeader, freshWords}
 use Rattle.model.specs.Machine.{openCall, layCall, splitCall, joinCall}
-use Rattle.model.specs.Questions.{headerOk, firstNo, number, after}
-use Rattle.model.specs.Soundness.{soundShelf}
+use Rattle.model.specs.Questions.{headerOk, number, after}
 use Rattle.model.specs.declared.Header.{Header}
 use Rattle.laws.specs.Accepted.{yes-all}
 use Rattle.laws.specs.Booleans.{and-no}
 use Rattle.midi.specs.Numbers.{word32}
 use Rattle.file.specs.Calls.{shelfFile, fileFits, writeQuestions, writeNumber, writeCount, writeOutput, loadNumber, loadAfter}
 use Rattle.beat.proofs.Opens.{open-refused, open-done}
-use Rattle.frames.specs.Lines.{Frame, malformed, openFrame, layFrame, splitFrame, joinFrame, writeFrame, loadFrame, arguments, withWords, openOf, layOf, splitOf, joinOf, writeOf, loadOf}
+use Rattle.frames.specs.Lines.{Frame, malformed, openFrame, writeFrame, arguments, withWords, openOf, layOf, splitOf, joinOf, writeOf, loadOf}
 use Rattle.frames.specs.Answers.{opens, numberOf, sessionAfter, fileAfter}
 use Rattle.frames.specs.Calling.{Changed, Wrote, Opened}
 

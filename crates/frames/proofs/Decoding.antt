@@ -5,10 +5,10 @@ use mathlib.Core.List.{List, [], _∷_}
 use Prim.Native.Nat.{ℕ, zero, suc, _+_, _*_, _/_, _%_, _≤_, _<_}
 use native.Mathlib.Omega.{arith}
 use borrow.Author.Tests.{le-leb, lt-leb, eq-eqb, ne-eqb, lt-ltb, le-ltb}
-use lib.Dec.{leb, eqb, ltb}
-use lib.ListN.{length, getD, set, take, drop, length-drop, drop-of-length-le}
+use lib.Dec.{leb, eqb}
+use lib.ListN.{length, getD, set, take, drop, drop-of-length-le}
 use lib.Seq.{drop-cons}
-use Rattle.words.specs.Splice.{splice, length-splice}
+use Rattle.words.specs.Splice.{splice}
 use Rattle.words.specs.Parts.{part-splice-written}
 use Rattle.words.specs.Writes.{Writes, writes-start, writes-word, writes-done}
 use Rattle.model.specs.Lists.{every}

@@ -1,5 +1,5 @@
 -- Input byte by byte: what one byte leaves, and bytes one behind the other. Assumes nothing.
-use mathlib.Core.Path.{_≡_, refl, sym, ap, ap₂, _∙_}
+use mathlib.Core.Path.{_≡_, refl, sym, ap, _∙_}
 use mathlib.Core.List.{List, [], _∷_, _++_, append-nil, append-assoc}
 use Prim.Native.Nat.{ℕ, suc, _+_, _-_, _≤_, _<_}
 use native.Mathlib.Numerals.{add-one}
@@ -7,11 +7,11 @@ use native.Mathlib.Omega.{arith}
 use borrow.Author.Tests.{ne-eqb, lt-ltb, le-ltb}
 use lib.ListN.{length, getD, set, take, drop, length-append, length-drop}
 use lib.Seq.{length-take-le, take-suc-set, take-suc, getD-drop}
-use Rattle.words.specs.Splice.{splice, length-splice, splice-append}
+use Rattle.words.specs.Splice.{splice, splice-append}
 use Rattle.words.specs.Parts.{part-splice-written}
 use Rattle.frames.specs.Lines.{frameIn}
 use Rattle.frames.specs.Answers.{sessionAfter, answerOf, lineAnswer, lineAfter}
-use Rattle.frames.specs.Answering.{Put, Answers}
+use Rattle.frames.specs.Answering.{Answers}
 use Rattle.frames.specs.Input.{Reading, kept, taken, written, takenAll, writtenAll}
 use Rattle.frames.specs.Blocks.{readingOf, Holds, Takes, TakesOne, ReadOn}
 use Rattle.frames.specs.declared.answers.Answered.{Answered}

@@ -1,11 +1,11 @@
 -- What the functions that carry out a frame leave, for the frame f: the session, the file and the output. Assumes nothing.
 use mathlib.Core.Path.{_≡_}
 use mathlib.Core.List.{List, []}
-use Prim.Native.Nat.{ℕ, _+_, _≤_}
+use Prim.Native.Nat.{ℕ, _≤_}
 use lib.ListN.{length, take}
 use Rattle.words.specs.Splice.{splice}
 use Rattle.frames.specs.Lines.{Frame}
-use Rattle.frames.specs.Answers.{maxSession, outputBytes, numberOf, sessionAfter, fileAfter, answerOf}
+use Rattle.frames.specs.Answers.{maxSession, outputBytes, numberOf, sessionAfter, fileAfter}
 use Rattle.frames.specs.declared.calls.Done.{Done}
 
 -- A call on the session s returned r, left s' and wrote no file.

@@ -3,7 +3,7 @@ use mathlib.Core.Bool.{Bool, _&&_, cond}
 use mathlib.Core.List.{List, [], _∷_}
 use Prim.Native.Nat.{ℕ, _+_, _-_, _*_, _/_, _%_}
 use lib.Dec.{leb, ltb}
-use Rattle.model.specs.Lists.{every, gather}
+use Rattle.model.specs.Lists.{gather}
 
 -- ---- digits read
 

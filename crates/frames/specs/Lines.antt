@@ -1,7 +1,7 @@
 -- Frames: what a line of input, without its line feed, stands for. Assumes nothing.
 use mathlib.Core.Bool.{Bool, _&&_, cond}
 use mathlib.Core.List.{List, [], _∷_}
-use Prim.Native.Nat.{ℕ, zero, suc, _+_, _-_, _*_, _/_, _%_}
+use Prim.Native.Nat.{ℕ, zero, suc, _-_, _*_, _/_, _%_}
 use lib.Dec.{leb, eqb}
 use lib.ListN.{length, drop}
 use Rattle.model.specs.Lists.{every}

@@ -4,9 +4,9 @@ use mathlib.Core.Bool.{Bool, true, false, cond, not, true≢false, _&&_, _||_}
 use mathlib.Core.List.{List, [], _∷_, _++_}
 use mathlib.Core.Path.{_∙_, _≡_, ap, refl, sym}
 use Prim.Native.Nat.{_*_, _+_, _-_, _/_, _<_, _≤_, suc, ℕ}
-use native.Mathlib.Nat.{div-lt-iff-lt-mul, div-mul-le-self, le-div-iff-mul-le, mul-div-left, mul-le-mul-right, suc-mul}
+use native.Mathlib.Nat.{div-lt-iff-lt-mul, le-div-iff-mul-le, mul-div-left, mul-le-mul-right, suc-mul}
 use native.Mathlib.Omega.{arith}
-use lib.Dec.{eqb, leb, ltb}
+use lib.Dec.{eqb, ltb}
 use lib.ListN.{drop, length, length-append}
 use borrow.Author.Tests.{eqb-true, le-leb, leb-false, le-ltb, lt-ltb, ltb-false, ltb-true}
 use Rattle.model.specs.Binding.{Piece, bound, boundNext, endOf, fills, firstShown, goOn, lineNotes, meet, opening, pieces, runs, standsAlone, startOf}
@@ -25,10 +25,9 @@ use Rattle.laws.specs.Booleans.{and-left, and-right}
 use Rattle.laws.specs.Healing.{no-cells, notes-again}
 use Rattle.laws.specs.ChainSolid.{Parts, parts}
 use Rattle.laws.specs.Clauses.{sound-chain}
-use Rattle.laws.specs.Counting.{sound-fits}
 use Rattle.laws.specs.Lines.{solid-line}
 use Rattle.laws.specs.Solid.{Solid}
-use Rattle.laws.specs.Sound.{sound-notes, sound-solid, sound-used}
+use Rattle.laws.specs.Sound.{sound-notes, sound-solid}
 use Rattle.laws.specs.Reading.{length-cells, length-read}
 use Rattle.laws.specs.Notes.{Fair, fair-notes}
 use Rattle.laws.specs.Relations.{All, all-keep}

@@ -3,9 +3,8 @@
 use mathlib.Core.Bool.{true}
 use mathlib.Core.List.{List, _++_}
 use mathlib.Core.Path.{_∙_, _≡_, ap, sym}
-use Prim.Native.Nat.{_<_, _-_, _+_, ℕ}
+use Prim.Native.Nat.{_<_, _-_, ℕ}
 use native.Mathlib.Omega.{arith}
-use lib.Dec.{ltb}
 use lib.ListN.{length, take, drop, replicate}
 use borrow.Author.Tests.{lt-ltb}
 use Rattle.words.specs.Parts.{part-splice-written}
@@ -18,14 +17,13 @@ use Rattle.model.specs.Takes.{cellWords, notesIn, shelfWords, word, wordsOf, wo
 use Rattle.model.specs.Lists.{gather}
 use Rattle.model.specs.Pieces.{cellsOfNote}
 use Rattle.model.specs.declared.Header.{Header}
-use Rattle.model.proofs.Headers.{InRange, in-range}
+use Rattle.model.proofs.Headers.{in-range}
 use Rattle.laws.specs.Clauses.{sound-chain}
 use Rattle.laws.specs.ChainSolid.{Parts, parts}
 use Rattle.laws.specs.Healing.{laid-words, notes-again}
 use Rattle.laws.specs.Reading.{read-notes}
 use Rattle.laws.specs.Sessions.{length-words}
 use Rattle.midi.specs.Reading.{read, readFile}
-use Rattle.midi.specs.Writing.{fileBytes}
 use Rattle.midi.proofs.RoundTrip.{round-trip}
 use Rattle.session.proofs.Sources.{shelf-inside}
 use Rattle.file.specs.Calls.{shelfFile, fileQuestions, loadQuestions, loadNumber, loaded, loadAfter}

@@ -1,7 +1,7 @@
 -- A session that holds what the machine gives still does after any call, a load among them. Assumes nothing.
 use mathlib.Core.Bool.{Bool, true, false}
 use mathlib.Core.List.{List, [], _∷_}
-use mathlib.Core.Path.{_∙_, _≡_, ap, refl, subst, sym}
+use mathlib.Core.Path.{_≡_, refl, subst, sym}
 use Prim.Native.Nat.{_<_, _≤_, suc, zero, ℕ}
 use native.Mathlib.Omega.{arith}
 use lib.Dec.{ltb}
@@ -9,11 +9,10 @@ use lib.ListN.{length}
 use borrow.Author.Tests.{ltb-true}
 use Rattle.model.specs.Histories.{Recording, recordingTake}
 use Rattle.model.specs.Machine as M
-use Rattle.model.specs.Machine.{Machine, recorded}
+use Rattle.model.specs.Machine.{Machine}
 use Rattle.model.specs.Questions as Q
 use Rattle.model.specs.Questions.{firstNo, fits, headerOk, putAll}
-use Rattle.model.specs.Session.{headerOf, putShelf}
-use Rattle.model.specs.Takes.{wordsOf}
+use Rattle.model.specs.Session.{headerOf}
 use Rattle.model.specs.declared.Header.{Header}
 use Rattle.laws.specs.CallSteps.{call-step, header-for, record-step}
 use Rattle.laws.specs.OneNote.{Valid}

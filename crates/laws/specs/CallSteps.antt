@@ -9,8 +9,8 @@ use lib.ListN.{drop, getD, length, length-append, length-drop, length-replicate,
 use lib.Seq.{getD-append-seam}
 use borrow.Author.Tests.{le-leb}
 use Rattle.model.specs.Histories.{Recording, historyTake, historyWords, pairsOf, recordingTake, takeOf}
-use Rattle.model.specs.Machine.{Call, Machine, accepted, fed, fedAll, history, joinCall, layCall, listed, openCall, opened, recorded, splitCall}
-use Rattle.model.specs.Questions.{after, afterAll, answered, fits, headerOk, number, putAll, questions, results, takeAt, written}
+use Rattle.model.specs.Machine.{Call, Machine, accepted, fed, history, joinCall, layCall, listed, openCall, opened, recorded, splitCall}
+use Rattle.model.specs.Questions.{after, fits, headerOk, number, putAll, questions, results, takeAt, written}
 use Rattle.model.specs.Session.{freshWords, headerOf}
 use Rattle.model.specs.Takes.{Take, joinTakes, notesOf, splitLeft, splitRight}
 use Rattle.model.specs.declared.Header.{Header}

@@ -1,7 +1,7 @@
 -- How many groups of seven bits a number takes: the fewest, by the count of its leading zeros; and the bytes of each count.
 -- Assumes nothing.
 use mathlib.Core.List.{List, [], _∷_}
-use mathlib.Core.Path.{_≡_, refl}
+use mathlib.Core.Path.{_≡_}
 use Prim.Native.Nat.{ℕ, suc, _+_, _-_, _/_, _%_, _^_, _≤_, _<_}
 use native.Mathlib.Nat.{le-trans, lt-of-lt-of-le, lt-irrefl, lt-of-not-le}
 use native.Mathlib.Omega.{arith}

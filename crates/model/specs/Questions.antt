@@ -9,7 +9,7 @@ use Rattle.model.specs.Lists.{every, pairwise}
 use Rattle.model.specs.Limits.{maxBeats, maxShelves, maxDelta, minWords, maxWords}
 use Rattle.model.specs.Takes.{Take, takeIn, notesOf, wordsOf, wordsUsed, splitLeft, splitRight, joinTakes}
 use Rattle.model.specs.Soundness.{notesOk, soundShelf}
-use Rattle.model.specs.Histories.{Recording, recordingTake}
+use Rattle.model.specs.Histories.{recordingTake}
 use Rattle.model.specs.Session.{headerOf, sessionLength, shelf, putShelf, freshWords}
 use Rattle.model.specs.Machine.{Call, openCall, layCall, splitCall, joinCall, listed}
 use Rattle.model.specs.declared.Header.{Header}

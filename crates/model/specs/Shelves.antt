@@ -7,7 +7,6 @@ use Prim.Native.Nat.{ℕ}
 use Rattle.model.specs.Takes.{shelfWords}
 use Rattle.model.specs.Soundness.{soundShelf}
 use Rattle.model.specs.Table.{note, cell}
-use Rattle.model.specs.declared.Header.{Header}
 use Rattle.model.specs.declared.Note.{Note}
 use Rattle.model.specs.declared.Cell.{Cell}
 

@@ -1,6 +1,6 @@
 -- The three bytes of an event from its number. Assumes nothing.
-use mathlib.Core.Path.{_≡_, ap, ap₂}
-use mathlib.Core.List.{List, [], _∷_}
+use mathlib.Core.Path.{_≡_}
+use mathlib.Core.List.{[], _∷_}
 use Prim.Native.Nat.{ℕ, _+_, _*_, _/_, _%_}
 use native.Mathlib.Omega.{arith}
 use Rattle.midi.specs.Writing.{messageBytes}

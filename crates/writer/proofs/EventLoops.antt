@@ -1,9 +1,9 @@
 -- The events of a track one by one: their ticks, and their bytes. Assumes nothing.
 use mathlib.Core.Path.{_≡_, refl, sym, ap, _∙_}
-use mathlib.Core.List.{List, [], _∷_, _++_, map, append-assoc}
-use Prim.Native.Nat.{ℕ, _+_, _-_, _*_, _≤_, _<_}
+use mathlib.Core.List.{List, [], _∷_, _++_, append-assoc}
+use Prim.Native.Nat.{ℕ, _+_, _-_, _≤_}
 use native.Mathlib.Omega.{arith}
-use lib.ListN.{length, getD, length-append}
+use lib.ListN.{length, length-append}
 use Rattle.midi.specs.Numbers.{quantityBytes}
 use Rattle.midi.specs.Writing.{eventBytes, messageBytes, endOfTrack}
 use Rattle.track.specs.Keys.{tickOf, eventOf}

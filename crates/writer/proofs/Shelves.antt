@@ -1,15 +1,14 @@
 -- What a shelf's notes give the code that writes them: their order, their ticks, and the bytes of their events. Assumes nothing.
-use mathlib.Core.Path.{_≡_, refl, sym, ap, _∙_}
-use mathlib.Core.Bool.{Bool, true, false}
+use mathlib.Core.Path.{_≡_, refl, ap, _∙_}
 use mathlib.Core.List.{List, [], _∷_, map}
-use Prim.Native.Nat.{ℕ, suc, _+_, _*_, _-_, _/_, _%_, _≤_, _<_}
+use Prim.Native.Nat.{ℕ, suc, _+_, _*_, _-_, _≤_, _<_}
 use native.Mathlib.Nat.{not-suc-le-zero, mul-le-mul-right}
 use native.Mathlib.Omega.{arith}
-use lib.Dec.{leb, ltb}
-use lib.ListN.{length, getD, drop}
+use lib.Dec.{leb}
+use lib.ListN.{getD}
 use borrow.Author.Tests.{leb-true}
 use Rattle.radix.specs.Sort as S
-use Rattle.order.specs.Events.{laneAt, endAt, events, InRange, Follows, Follows.lanes, Follows.ticks, Ordered, length-events}
+use Rattle.order.specs.Events.{laneAt, endAt, events, Follows, Follows.lanes, Follows.ticks, Ordered, length-events}
 use Rattle.order.specs.Runs.{Split, last-lane, split-length}
 use Rattle.model.specs.Lists.{gather}
 use Rattle.model.specs.Limits.{velocityOk}
@@ -17,13 +16,13 @@ use Rattle.model.specs.Takes.{readNotes}
 use Rattle.model.specs.declared.Note.{Note}
 use Rattle.laws.specs.Booleans.{and-right}
 use Rattle.laws.specs.Notes.{Fair, Follow, above, later, fair-notes, ok-pairs}
-use Rattle.laws.specs.Relations.{All, Pairs, all-imp, all-at}
-use Rattle.midi.specs.Writing.{NoteEvent, noteEvent, startOf, endOf, eventsOf, order, inOrder, eventBytes, trackBytes}
+use Rattle.laws.specs.Relations.{All, all-imp, all-at}
+use Rattle.midi.specs.Writing.{NoteEvent, noteEvent, eventsOf, order, inOrder, eventBytes, trackBytes}
 use Rattle.midi.proofs.Sorting.{all-in-order}
 use Rattle.session.specs.Reading.{noteAt}
 use Rattle.track.specs.Keys.{keyOf, tickOf, eventOf}
 use Rattle.writer.specs.Files.{FileAsks, LanesBelow, Room}
-use Rattle.writer.specs.Tracks.{trackLeft, eventsLeft, Timed, Timed.over, Timed.next, TrackAsks}
+use Rattle.writer.specs.Tracks.{trackLeft, Timed, Timed.over, Timed.next, TrackAsks}
 use Rattle.writer.proofs.Keys.{each-note, each-pair, events-keys, all-differ, sort-keys}
 
 -- ---- events from their numbers

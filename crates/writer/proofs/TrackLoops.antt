@@ -9,7 +9,7 @@ use Rattle.words.specs.Splice.{splice, splice-append, length-splice}
 use Rattle.order.specs.Queues.{Queues, merged}
 use Rattle.order.specs.Events.{events}
 use Rattle.order.specs.Windows.{From, from-small}
-use Rattle.order.specs.Taking.{Width, TakeAsks, Taken}
+use Rattle.order.specs.Taking.{Width, Taken}
 use Rattle.midi.specs.Numbers.{quantityBytes}
 use Rattle.midi.specs.Writing.{endOfTrack}
 use Rattle.writer.specs.Tracks.{trackLeft, Timed, TrackAsks}

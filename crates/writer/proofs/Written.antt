@@ -2,7 +2,7 @@
 use mathlib.Core.Path.{_≡_, refl, sym, ap, _∙_}
 use mathlib.Core.Bool.{true, false}
 use mathlib.Core.List.{List, _++_}
-use Prim.Native.Nat.{ℕ, _+_, _-_, _*_, _≤_, _<_}
+use Prim.Native.Nat.{ℕ, _+_, _-_, _*_, _≤_}
 use native.Mathlib.Omega.{arith}
 use lib.Dec.{leb}
 use lib.ListN.{length, length-append}
@@ -20,7 +20,7 @@ use Rattle.writer.specs.Files.{FileAsks, fileOf, countOf, outputOf}
 use Rattle.writer.specs.Tracks.{trackLeft}
 use Rattle.writer.proofs.Shelves.{track-is}
 
-header-length : (δ n : ℕ) → length (headerBytes δ n) ≡ 22
+pub header-length : (δ n : ℕ) → length (headerBytes δ n) ≡ 22
 unfolding headerBytes
 header-length δ n = refl
 

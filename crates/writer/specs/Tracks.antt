@@ -1,7 +1,7 @@
 -- The track of a take's notes as its code writes it, event by event; events are numbers. Assumes nothing.
 use mathlib.Core.Path.{_≡_}
 use mathlib.Core.List.{List, [], _∷_, map}
-use Prim.Native.Nat.{ℕ, _+_, _*_, _≤_, _<_}
+use Prim.Native.Nat.{ℕ, _*_, _≤_, _<_}
 use lib.ListN.{length}
 use Rattle.order.specs.Events.{events}
 use Rattle.order.specs.Queues.{Queues, merged}

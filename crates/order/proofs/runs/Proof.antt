@@ -1,7 +1,7 @@
 use Rattle.order.specs.Runs.{Runs, runs-start, runs-more, runs-done}
 use lib.ListN.{length}
 use native.Mathlib.Omega.{arith}
-use Prim.Native.Nat.{ℕ, _+_, _*_, _-_, _<_, _≤_}
+use Prim.Native.Nat.{_-_, _≤_}
 use mathlib.Core.Path.{_≡_, refl}
 use borrow.Author.Needs.{needs}
 use Rattle.order.proofs.runs.Statement.{statement}

@@ -1,5 +1,4 @@
 -- `cuts::lanes::behind_seam` meets its contract. Assumes nothing.
-use native.Mathlib.Omega.{arith}
 use Rattle.cuts.proofs.LaneSeam.{back-apart, back-whole, back-none, back-other, back-first}
 use borrow.Author.Needs.{needs}
 use Rattle.cuts.proofs.lanes.behind_seam.Statement.{statement}

@@ -1,5 +1,4 @@
 -- `cuts::lanes::kept_notes` meets its contract. Assumes nothing.
-use native.Mathlib.Omega.{arith}
 use Rattle.cuts.proofs.LaneSeam.{kept-all, kept-none, kept-less}
 use borrow.Author.Needs.{needs}
 use Rattle.cuts.proofs.lanes.kept_notes.Statement.{statement}

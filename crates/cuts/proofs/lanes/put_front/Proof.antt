@@ -1,5 +1,4 @@
 -- `cuts::lanes::put_front` meets its contract. Assumes nothing.
-use native.Mathlib.Omega.{arith}
 use Rattle.cuts.proofs.LaneWrites.{first-asks, cell-run-asks, count-few, seam-asks, put-asks, first-put}
 use borrow.Author.Needs.{needs}
 use Rattle.cuts.proofs.lanes.put_front.Statement.{statement}

@@ -2,7 +2,6 @@
 use native.Mathlib.Omega.{arith}
 use Prim.Native.Nat.{_-_}
 use Rattle.cuts.proofs.LaneWalk.{Walking, line-word, walk-start, both-in, walk-next, walk-later, walk-done, lane-asks, walk-lane}
-use borrow.Author.Needs.{needs}
 use Rattle.cuts.proofs.lanes.put_joined_notes.Statement.{statement}
 use Rattle.cuts.proofs.lanes.put_joined_notes.Tie as tie
 use Rattle.cuts.proofs.lanes.put_joined_notes.Reads as reads

@@ -1,5 +1,4 @@
 -- `cuts::seam::bound_over` meets its contract. Assumes nothing.
-use native.Mathlib.Omega.{arith}
 use mathlib.Core.Path.{_∙_}
 use Rattle.cuts.proofs.JoinSeam.{over-not-closing, over-not-last, over-not-opening, over-not-first, over-bound}
 use borrow.Author.Needs.{needs}

@@ -1,5 +1,4 @@
 -- `cuts::seam::ending` meets its contract. Assumes nothing.
-use native.Mathlib.Omega.{arith}
 use Rattle.cuts.proofs.JoinSeam.{ending-low}
 use borrow.Author.Needs.{needs}
 use Rattle.cuts.proofs.seam.ending.Statement.{statement}

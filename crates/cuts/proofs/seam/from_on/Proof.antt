@@ -1,5 +1,4 @@
 -- `cuts::seam::from_on` meets its contract. Assumes nothing.
-use native.Mathlib.Omega.{arith}
 use mathlib.Core.Path.{_∙_}
 use Rattle.cuts.proofs.JoinSeam.{on-end, on-other, on-short, on-note}
 use borrow.Author.Needs.{needs}

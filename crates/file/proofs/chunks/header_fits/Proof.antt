@@ -1,5 +1,4 @@
 -- `file::chunks::header_fits` meets its contract. Assumes nothing.
-use mathlib.Core.Path.{_≡_, refl, sym, ap, _∙_}
 use Rattle.file.proofs.ChunkLoops.{fits-format, fits-tracks, fits-last}
 use borrow.Author.Needs.{needs}
 use Rattle.file.proofs.chunks.header_fits.Statement.{statement}

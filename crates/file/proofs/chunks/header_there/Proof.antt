@@ -1,6 +1,4 @@
 -- `file::chunks::header_there` meets its contract. Assumes nothing.
-use mathlib.Core.Path.{_≡_, refl, sym, ap, _∙_}
-use native.Mathlib.Omega.{arith}
 use Rattle.file.proofs.ChunkLoops.{there-short, there-other, there-small, there-last}
 use borrow.Author.Needs.{needs}
 use Rattle.file.proofs.chunks.header_there.Statement.{statement}

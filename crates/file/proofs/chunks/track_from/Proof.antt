@@ -1,8 +1,8 @@
 -- `file::chunks::track_from` meets its contract. Assumes nothing.
 use mathlib.Core.Path.{_≡_, refl, sym, ap, _∙_}
 use native.Mathlib.Omega.{arith}
-use Prim.Native.Nat.{ℕ, suc, _≤_, _<_, _+_, _*_, _-_}
-use lib.ListN.{length, getD}
+use Prim.Native.Nat.{_≤_, _-_}
+use lib.ListN.{length}
 use Rattle.midi.proofs.Loops.{trackAfter}
 use Rattle.file.specs.Chunks.{chunkPlace}
 use Rattle.file.proofs.ChunkLoops.{chunk-short, chunk-cut, chunk-track, chunk-other}

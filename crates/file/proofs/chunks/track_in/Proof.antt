@@ -1,6 +1,6 @@
 -- `file::chunks::track_in` meets its contract. Assumes nothing.
 use borrow.Author.Tests.{not-true, not-false}
-use mathlib.Core.Path.{_≡_, refl, sym, ap, _∙_}
+use mathlib.Core.Path.{sym, _∙_}
 use native.Mathlib.Omega.{arith}
 use Rattle.file.proofs.ChunkLoops.{there-long, place-none, place-misfit, place-chunks}
 use borrow.Author.Needs.{needs}

@@ -1,8 +1,7 @@
 -- `frames::answers::answer_frame` meets its contract. Assumes nothing.
 use Rattle.frames.proofs.Dispatch.{opened-few, changed-few, frame-open, frame-write, frame-change, answer-open, answer-change, answer-same, write-leaves}
 use lib.Seq.{length-take-le}
-use mathlib.Core.Path.{sym, ap, _∙_}
-use lib.ListN.{length}
+use mathlib.Core.Path.{sym}
 use native.Mathlib.Omega.{arith}
 use borrow.Author.Needs.{needs}
 use Rattle.frames.proofs.answers.answer_frame.Statement.{statement}

@@ -1,6 +1,5 @@
 -- `frames::calls::open_frame` meets its contract. Assumes nothing.
 use Rattle.frames.proofs.Carried.{open-wrong, open-right}
-use mathlib.Core.Path.{sym}
 use native.Mathlib.Omega.{arith}
 use borrow.Author.Needs.{needs}
 use Rattle.frames.proofs.calls.open_frame.Statement.{statement}

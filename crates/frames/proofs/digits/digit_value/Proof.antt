@@ -1,10 +1,7 @@
 -- `frames::digits::digit_value` meets its contract. Assumes nothing.
 use Rattle.frames.proofs.Values.{value-below, value-figure, value-between, value-letter, value-above}
 use borrow.Author.Needs.{needs}
-use borrow.Author.Tests.{lt-leb, le-leb}
 use native.Mathlib.Omega.{arith}
-use mathlib.Core.Path.{refl}
-use Rattle.frames.specs.Digits.{digitValue}
 use Rattle.frames.proofs.digits.digit_value.Statement.{statement}
 use Rattle.frames.proofs.digits.digit_value.Tie as tie
 use Rattle.frames.proofs.digits.digit_value.Reads as reads

@@ -1,5 +1,5 @@
 -- `session::cells::line_sides` meets its contract. Assumes nothing.
-use mathlib.Core.Path.{_≡_, refl, ap}
+use mathlib.Core.Path.{_≡_, refl}
 use mathlib.Core.Bool.{Bool, true, false}
 use Prim.Native.Nat.{ℕ, _+_, _*_, _/_}
 use native.Mathlib.Nat.{div-le-self, div-mul-le-self}

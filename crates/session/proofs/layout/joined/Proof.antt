@@ -1,6 +1,5 @@
 -- `session::layout::joined` meets its contract. The measure is how many words are left. Assumes nothing.
 use Prim.Native.Nat.{_-_}
-use native.Mathlib.Omega.{arith}
 use Rattle.session.proofs.Layouts.{Joining, joining-start, joining-more, joining-done}
 use borrow.Author.Needs.{needs}
 use Rattle.session.proofs.layout.joined.Statement.{statement}

@@ -1,6 +1,6 @@
 -- `track::bytes::word16` meets its contract. Assumes nothing.
-use Prim.Native.Nat.{ℕ, suc, _≤_, _<_, _+_, _*_, _-_}
-use mathlib.Core.Path.{_≡_, refl, sym, ap, _∙_}
+use Prim.Native.Nat.{_+_}
+use mathlib.Core.Path.{refl}
 use native.Mathlib.Omega.{arith}
 use borrow.Author.Needs.{needs}
 use Rattle.track.proofs.bytes.word16.Statement.{statement}

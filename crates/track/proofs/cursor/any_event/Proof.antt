@@ -1,5 +1,5 @@
 -- `track::cursor::any_event` meets its contract. Assumes nothing.
-use mathlib.Core.Path.{_≡_, refl, sym, ap, _∙_}
+use mathlib.Core.Path.{sym, ap, _∙_}
 use native.Mathlib.Omega.{arith}
 use Rattle.track.specs.Reading.{quantityOf}
 use Rattle.track.proofs.ReadGroups.{quantity-small}

@@ -1,5 +1,5 @@
 -- `track::cursor::behind_time` meets its contract. Assumes nothing.
-use mathlib.Core.Path.{_≡_, refl, sym, ap, _∙_}
+use mathlib.Core.Path.{_∙_}
 use Rattle.track.proofs.Parts.{behind-cut, behind-own, behind-bare, behind-running}
 use borrow.Author.Needs.{needs}
 use Rattle.track.proofs.cursor.behind_time.Statement.{statement}

@@ -1,5 +1,5 @@
 -- `track::cursor::channel_at` meets its contract. Assumes nothing.
-use mathlib.Core.Path.{_≡_, refl, sym, ap, _∙_}
+use mathlib.Core.Path.{_∙_}
 use Rattle.track.proofs.Parts.{data-cut, data-high, data-low, channel-none, channel-one, channel-two}
 use borrow.Author.Needs.{needs}
 use Rattle.track.proofs.cursor.channel_at.Statement.{statement}

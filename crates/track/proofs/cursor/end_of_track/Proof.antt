@@ -1,6 +1,5 @@
 -- `track::cursor::end_of_track` meets its contract. Assumes nothing.
 use Rattle.track.proofs.Parts.{end-there, end-early, end-full}
-use borrow.Author.Needs.{needs}
 use Rattle.track.proofs.cursor.end_of_track.Statement.{statement}
 use Rattle.track.proofs.cursor.end_of_track.Tie as tie
 use Rattle.track.proofs.cursor.end_of_track.Reads as reads

@@ -1,5 +1,5 @@
 -- `track::cursor::own_status` meets its contract. Assumes nothing.
-use mathlib.Core.Path.{_≡_, refl, sym, ap, _∙_}
+use mathlib.Core.Path.{_∙_}
 use Rattle.track.proofs.Parts.{own-channel, own-meta, own-f0, own-f7, own-none}
 use borrow.Author.Needs.{needs}
 use Rattle.track.proofs.cursor.own_status.Statement.{statement}

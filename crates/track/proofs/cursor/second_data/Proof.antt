@@ -1,7 +1,5 @@
 -- `track::cursor::second_data` meets its contract. Assumes nothing.
-use mathlib.Core.Path.{_≡_, refl, sym, ap, _∙_}
 use Rattle.track.proofs.Parts.{data-cut, data-high, data-low, second-none, second-there}
-use Rattle.midi.specs.Events.{event, place}
 use borrow.Author.Needs.{needs}
 use Rattle.track.proofs.cursor.second_data.Statement.{statement}
 use Rattle.track.proofs.cursor.second_data.Tie as tie

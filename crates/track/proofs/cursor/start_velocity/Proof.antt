@@ -1,6 +1,5 @@
 -- `track::cursor::start_velocity` meets its contract. Assumes nothing.
 use borrow.Author.Tests.{lt-ltb, le-ltb}
-use borrow.Author.Needs.{needs}
 use Rattle.track.proofs.cursor.start_velocity.Statement.{statement}
 use Rattle.track.proofs.cursor.start_velocity.Tie as tie
 use Rattle.track.proofs.cursor.start_velocity.Reads as reads

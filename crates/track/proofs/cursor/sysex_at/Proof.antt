@@ -1,5 +1,5 @@
 -- `track::cursor::sysex_at` meets its contract. Assumes nothing.
-use mathlib.Core.Path.{_≡_, refl, sym, ap, _∙_}
+use mathlib.Core.Path.{sym, ap, _∙_}
 use Rattle.track.specs.Reading.{quantityOf}
 use Rattle.track.proofs.ReadGroups.{quantity-behind}
 use Rattle.track.proofs.Parts.{sysex-none, sysex-over}

@@ -3,7 +3,6 @@ use Rattle.midi.proofs.Groups.{groups-by-zeros}
 use Rattle.track.proofs.Groups.{group-of-few}
 use lib.Count.{leading-le}
 use native.Mathlib.Omega.{arith}
-use borrow.Author.Needs.{needs}
 use Rattle.track.proofs.putting.group_count.Statement.{statement}
 use Rattle.track.proofs.putting.group_count.Tie as tie
 use Rattle.track.proofs.putting.group_count.Reads as reads

@@ -1,8 +1,7 @@
 -- `track::quantities::quantity_at` meets its contract. Assumes nothing.
-use mathlib.Core.Path.{_≡_, refl, sym, ap, _∙_}
-use Prim.Native.Nat.{ℕ, suc, _≤_, _<_, _+_, _*_, _-_}
+use mathlib.Core.Path.{_≡_, refl, sym, _∙_}
+use Prim.Native.Nat.{_≤_, _<_}
 use native.Mathlib.Omega.{arith}
-use lib.ListN.{length, getD}
 use Rattle.midi.specs.Numbers.{quantityFrom}
 use Rattle.track.proofs.ReadGroups.{top, top-start, top-low, top-next, group-cut, group-last, group-more, group-none}
 use borrow.Author.Needs.{needs}
