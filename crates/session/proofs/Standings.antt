@@ -265,9 +265,9 @@ module _ (h : Header) (beats : ℕ) (ws : List ℕ) (to end notes cells : ℕ) w
         two =
             one
             ∙ rw (not-false p t) (late (firstFollows n (rest (left - 1)) && notesOk (h .delta) beats (rest (left - 1))) _ _ (λ y.
-              s .first (rest (left - 1)) (long-notes (h .delta) beats (rest (left - 1)) (and-right (firstFollows n (rest (left - 1))) _ y))
-              (ok-pairs (h .delta) beats (n ∷ rest (left - 1)) (follow-on y))
-              (tested-from h ws end cells beside (a .beside-left) room (a .tested)) (tested-from h ws end cells line (a .line-left) room (a .tested))))
+            s .first (rest (left - 1)) (long-notes (h .delta) beats (rest (left - 1)) (and-right (firstFollows n (rest (left - 1))) _ y))
+            (ok-pairs (h .delta) beats (n ∷ rest (left - 1)) (follow-on y))
+            (tested-from h ws end cells beside (a .beside-left) room (a .tested)) (tested-from h ws end cells line (a .line-left) room (a .tested))))
 
         pub not-right : not (r .right) ≡ true → false ≡ notesAsked h beats (rest notes) (lastCells ws end cells)
         not-right w = sym (two ∙ wrong-behind (firstFollows n (rest (left - 1)) && notesOk (h .delta) beats (rest (left - 1))) (r .right) (beside-of (left - 1) (r .beside) (r .line)) (not-true (r .right) w))

@@ -16,7 +16,11 @@ returns c = passes-none _ _ _ _ _ _ (c .before .before .first-of-run .ensures .0
 
 pass-run-requires : tie.Need-pass-run-requires
 pass-run-requires c κs = (
-  c .before .before .before .before .pre .0, c .before .before .before .before .pre .1, c .before .before .before .before .pre .2, c .before .before .before .before .pre .3, c .before .before .before .before .pre .4,
+  c .before .before .before .before .pre .0,
+  c .before .before .before .before .pre .1,
+  c .before .before .before .before .pre .2,
+  c .before .before .before .before .pre .3,
+  c .before .before .before .before .pre .4,
   record {
     starts = c .before .before .first-of-run .ensures .0;
     stops = c .before .last-of-run .ensures .0;
