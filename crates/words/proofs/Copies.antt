@@ -5,10 +5,9 @@ use Prim.Native.Nat.{ℕ, suc, _+_, _-_, _≤_, _<_}
 use native.Mathlib.Nat.{add-zero, sub-zero}
 use native.Mathlib.Omega.{arith}
 use lib.ListN.{length, getD, set, take, drop}
-use Rattle.words.specs.Apart.{Apart}
 use Rattle.words.specs.Splice.{splice}
-use Rattle.words.specs.Parts.{length-part, part-cons}
-use Rattle.words.specs.Writes.{Writes, writes-start, writes-word, writes-done, writes-same}
+use Rattle.words.specs.Parts.{part-cons}
+use Rattle.words.specs.Writes.{Writes, writes-start, writes-word, writes-done}
 
 -- of the count words of m from place from on, i are copied to s₀ from place to on, which makes s
 pub record Copies (m s₀ s : List ℕ) (from to count i : ℕ) : Type 0 where
@@ -32,10 +31,3 @@ module _ {m s₀ s : List ℕ} {from to count i : ℕ} (h : Copies m s₀ s from
 
   pub copies-done : count ≤ i → s ≡ splice s₀ to (take count (drop from m))
   copies-done all = let e : count - i ≡ 0 = omega arith in writes-done (rw e at (h .writes))
-
--- a word that is still to be copied within one list is as it was
-pub copies-same : {s₀ s : List ℕ} {from to count i : ℕ} → Copies s₀ s₀ s from to count i → Apart from count to count → i < count
-    → getD s (from + i) 0 ≡ getD s₀ (from + i) 0
-copies-same {s₀} {s} {from} {to} {count} {i} h apart more =
-    let apart' : Apart from count to (length (take count (drop from s₀))) = rw (length-part s₀ from count (h .fits)) apart in
-    writes-same (h .writes) apart' .at (from + i) (omega arith) (omega arith)

@@ -3,7 +3,6 @@ ghost use mathlib.Core.Path.{_≡_};
 ghost use mathlib.Core.List.{[], _∷_};
 ghost use Prim.Native.Nat.{_+_, _-_, _≤_};
 ghost use lib.ListN.{length, take, drop, replicate};
-ghost use Rattle.words.specs.Apart.{Apart};
 ghost use Rattle.words.specs.Splice.{splice};
 
 // Writes zeros to the places from `from` up to, not including, `to`.
@@ -44,19 +43,6 @@ pub fn put_six(s: &mut [u32], at: usize, a: u32, b: u32, c: u32, d: u32, e: u32,
 {
     put_three(s, at, a, b, c);
     put_three(s, at + 3, d, e, f);
-}
-
-// Copies `count` words from place `from` to place `to` of the same list; the two runs of places share none.
-pub fn copy_within(s: &mut [u32], from: usize, to: usize, count: usize)
-    requires { ⌜ (from + count ≤ length (now s)) × (to + count ≤ length (now s)) × Apart from count to count ⌝ }
-    ensures { λ _. ⌜ now (s .exit) ≡ splice (now (s .entry)) to (take count (drop from (now (s .entry)))) ⌝ }
-{
-    let mut i = 0;
-    while i < count {
-        let word = s[from + i];
-        s[to + i] = word;
-        i += 1;
-    }
 }
 
 // Copies `count` words from place `from` of another list to place `to`.
