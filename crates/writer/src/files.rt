@@ -5,7 +5,7 @@ ghost use lib.ListN.{length};
 ghost use Rattle.words.specs.Splice.{splice};
 ghost use Rattle.model.specs.Limits.{maxDelta};
 ghost use Rattle.midi.specs.Writing.{headerBytes};
-ghost use Rattle.writer.specs.Files.{FileAsks, PartAsks, fileOf, fileIn, countOf, outputOf};
+ghost use Rattle.writer.specs.Files.{FileAsks, PartAsks, Room, fileOf, fileIn, countOf, outputOf};
 use crate::few;
 use crate::many;
 use crate::wide;
@@ -27,7 +27,34 @@ pub fn put_header(out: &mut [u8], delta: u32, size: u32)
 }
 
 // The file of a shelf's notes, if it fits the output. Returns its length, or 0 if it does not fit. The events are taken window by window, or where
-// the lanes are very many, bucket by bucket in the output itself. Both ways are lent the same tables, so that these stand on the stack once.
+// the lanes are very many, bucket by bucket in the output itself. The tables are lent to the way that is taken.
+fn put_lent(
+    s: &[u32],
+    count: usize,
+    delta: u32,
+    beats: u32,
+    pos: &mut [u32],
+    ends: &mut [u32],
+    to: &mut [u32],
+    a: &mut [u64],
+    b: &mut [u64],
+    places: &mut [u16],
+    out: &mut [u8],
+) -> usize
+    requires { ⌜ FileAsks (now s) count delta beats × Room (now pos) (now ends) (now to) (now a) (now b) (now places) ⌝ }
+    ensures { λ r. ⌜ (r ≡ countOf (fileOf (now (s .entry)) count delta beats) (now (out .entry))) × (now (out .exit) ≡ outputOf (fileOf (now (s .entry)) count delta beats) (now (out .entry))) ⌝ }
+{
+    let w = wide::bucket_ticks(s, count, beats * delta, out.len());
+    if 0 < w {
+        if buckets::plan(s, count, w, ends) {
+            return wide::put_wide(s, count, delta, beats, w, pos, ends, to, a, b, places, out);
+        }
+    }
+    many::put_many(s, count, delta, beats, pos, ends, to, a, b, places, out)
+}
+
+// The file of a shelf's notes, if it fits the output. Returns its length, or 0 if it does not fit. Both ways of writing it work in the same tables,
+// which are made here, so that they stand on the stack once.
 fn put_long_file(s: &[u32], count: usize, delta: u32, beats: u32, out: &mut [u8]) -> usize
     requires { ⌜ FileAsks (now s) count delta beats ⌝ }
     ensures { λ r. ⌜ (r ≡ countOf (fileOf (now (s .entry)) count delta beats) (now (out .entry))) × (now (out .exit) ≡ outputOf (fileOf (now (s .entry)) count delta beats) (now (out .entry))) ⌝ }
@@ -38,26 +65,7 @@ fn put_long_file(s: &[u32], count: usize, delta: u32, beats: u32, out: &mut [u8]
     let mut a = [0u64; 2048];
     let mut b = [0u64; 2048];
     let mut places = [0u16; 2048];
-    let width = wide::bucket_ticks(s, count, beats * delta, out.len());
-    if 0 < width {
-        if buckets::plan(s, count, width, &mut ends) {
-            return wide::put_wide(
-                s,
-                count,
-                delta,
-                beats,
-                width,
-                &mut pos,
-                &mut ends,
-                &mut to,
-                &mut a,
-                &mut b,
-                &mut places,
-                out,
-            );
-        }
-    }
-    many::put_many(
+    put_lent(
         s,
         count,
         delta,
