@@ -61,8 +61,7 @@ fn load_track(s: &mut [u32], h: Header, shelf: u32, track: &[u8]) -> u32
     ensures words { λ _. ⌜ now (s .exit) ≡ answerAfter h (now (s .entry)) shelf (readTrack (h .delta) (now (track .entry))) ⌝ }
 {
     let mut counts = [0u32; 2048];
-    let counted = counting::count_track(track, h.delta, &mut counts);
-    match counted {
+    match counting::count_track(track, h.delta, &mut counts) {
         Counted::Recording {
             beats,
             notes,

@@ -8,6 +8,8 @@ use session::sound;
 use writer::files;
 
 // Writes a shelf's file to an output. Returns the number of the first question answered no, or 0; counts the file's bytes, and 0 for a refusal.
+// No file is shorter than its header, 22 bytes. That question 4 stands in two places also keeps the compiler from putting it inside this
+// function, where a write takes a twentieth longer.
 #[no_mangle]
 pub extern "C" fn take_write(session: &[u32], shelf: u32, output: &mut [u8], count: &mut u64) -> u32
     ensures number { λ r. ⌜ r ≡ writeNumber (now (session .entry)) shelf (length (now (output .entry))) ⌝ }
@@ -20,8 +22,6 @@ pub extern "C" fn take_write(session: &[u32], shelf: u32, output: &mut [u8], cou
         Entry::Granted(h) => {
             let at = header::shelf_at(h, shelf);
             let end = at + (h.words as usize);
-            // No file is shorter than its header. That question 4 stands in two places also keeps the compiler from putting it inside this
-            // function, where a write takes a twentieth longer.
             if output.len() < 22 {
                 if sound::sound(h, &session[at..end]) {
                     return 15;

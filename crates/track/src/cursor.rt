@@ -238,6 +238,17 @@ impl Cursor {
         }
     }
 
+    // The same place, copied field by field, for a loop to go on from: a copy of all at once waits for the stores of its parts.
+    pub fn again(self) -> Cursor
+        ensures { λ r. ⌜ r ≡ self ⌝ }
+    {
+        Cursor {
+            at: self.at,
+            tick: self.tick,
+            running: self.running,
+        }
+    }
+
     // The event at this place. Most are notes of four bytes: a time of one group, 8n or 9n, key and velocity. These are read here, in few
     // steps, so that this function is compiled into the loops over events.
     pub fn event(self, s: &[u8]) -> Event
