@@ -5,10 +5,9 @@
 use crate::inputs;
 use crate::pair::{Counts, Pair};
 use reference::generate::calls::{self, Sizes};
-use reference::generate::notes::{self, Measures};
-use reference::generate::takes::cells_and_inner_notes;
+use reference::generate::takes;
+use reference::plain::rules;
 use reference::plain::sound::{broken, Clause};
-use reference::plain::{piece, rules};
 use reference::random::Random;
 
 /// Which clauses were broken alone, and which two together, in shelves that
@@ -98,29 +97,7 @@ pub fn just_fitting(random: &mut Random, counts: &mut Counts) -> Result<(), Stri
 
 /// A shelf of freely chosen cells and the notes that the rules give from them.
 fn put_free_take(random: &mut Random, pair: &mut Pair, shelf: u32) {
-    let session = &pair.second;
-    let chosen = Measures { delta: session[0], epsilon: session[1], beats: random.between(0, 4) };
-    let lanes = notes::lanes(random, 2);
-    let (cells, inner) = cells_and_inner_notes(random, &chosen, &lanes);
-    let cells: Vec<piece::Cell> = cells
-        .iter()
-        .map(|words| words.map(u64::from))
-        .map(|[lane, beat, side, before, after, velocity]| piece::Cell {
-            lane,
-            beat,
-            side,
-            before,
-            after,
-            velocity,
-        })
-        .collect();
-    let inner: Vec<piece::Note> = inner
-        .iter()
-        .map(|words| words.map(u64::from))
-        .map(|[lane, start, end, velocity]| piece::Note { lane, start, end, velocity })
-        .collect();
-    let pieces = piece::of_take(&inner, &cells, chosen.delta.into());
-    if let Some(words) = rules::words(chosen.beats.into(), &pieces, &measures(session)) {
+    if let Some(words) = takes::shelf_words(random, &pair.second) {
         pair.put_shelf(shelf, &words);
     }
 }

@@ -7,10 +7,8 @@ mod common;
 use common::{compared, fresh, measures, shelf, shelf_mut};
 use reference::call::Call;
 use reference::generate::calls::{self, Sizes};
-use reference::generate::notes::{self, Measures};
-use reference::generate::takes::cells_and_inner_notes;
+use reference::generate::takes;
 use reference::plain::sound::broken;
-use reference::plain::{piece, rules};
 use reference::random::Random;
 use reference::{header, sound};
 
@@ -94,29 +92,7 @@ fn sessions_of_random_words() {
 
 /// Fills a shelf with free cells and the notes that the rules give from them.
 fn put_free_take(random: &mut Random, session: &mut [u32], number: u32) {
-    let beats = random.between(0, 4);
-    let m = Measures { delta: session[0], epsilon: session[1], beats };
-    let lanes = notes::lanes(random, 2);
-    let (cells, inner) = cells_and_inner_notes(random, &m, &lanes);
-    let cells: Vec<piece::Cell> = cells
-        .iter()
-        .map(|words| words.map(u64::from))
-        .map(|[lane, beat, side, before, after, velocity]| piece::Cell {
-            lane,
-            beat,
-            side,
-            before,
-            after,
-            velocity,
-        })
-        .collect();
-    let inner: Vec<piece::Note> = inner
-        .iter()
-        .map(|words| words.map(u64::from))
-        .map(|[lane, start, end, velocity]| piece::Note { lane, start, end, velocity })
-        .collect();
-    let pieces = piece::of_take(&inner, &cells, m.delta.into());
-    let words = rules::words(beats.into(), &pieces, &measures(session)).expect("it fits");
+    let words = takes::shelf_words(random, session).expect("it fits");
     shelf_mut(session, number).copy_from_slice(&words);
 }
 

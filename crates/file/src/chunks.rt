@@ -1,6 +1,5 @@
 // The header and the chunks of a file (questions 9 to 11): where its track is.
 ghost use mathlib.Core.Path.{_≡_};
-ghost use mathlib.Core.Bool.{true};
 ghost use Prim.Native.Nat.{_+_, _≤_, _<_};
 ghost use lib.ListN.{length};
 ghost use Rattle.midi.specs.Numbers as N;

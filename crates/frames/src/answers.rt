@@ -2,8 +2,7 @@
 ghost use mathlib.Core.Path.{_≡_};
 ghost use mathlib.Core.List.{[], _∷_, _++_};
 ghost use Prim.Native.Nat.{_+_, _≤_, _<_};
-ghost use lib.ListN.{length, take};
-ghost use Rattle.words.specs.Splice.{splice};
+ghost use lib.ListN.{length};
 ghost use Rattle.frames.specs.Digits.{byteDigits};
 ghost use Rattle.frames.specs.Lines.{writeOf, changeOf, frameOf, frameIn};
 ghost use Rattle.frames.specs.Answers.{maxSession, answerOf};

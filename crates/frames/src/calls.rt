@@ -2,7 +2,6 @@
 ghost use mathlib.Core.Path.{_≡_};
 ghost use Prim.Native.Nat.{_+_, _-_, _*_, _/_, _≤_};
 ghost use lib.ListN.{length, take};
-ghost use Rattle.words.specs.Splice.{splice};
 ghost use Rattle.midi.specs.Numbers.{word16, word32};
 ghost use Rattle.frames.specs.Lines.{arguments, openFrame, openOf, layOf, splitOf, joinOf, writeOf, loadOf};
 ghost use Rattle.frames.specs.Answers.{maxSession, outputBytes};

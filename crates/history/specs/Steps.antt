@@ -10,7 +10,6 @@ use borrow.Author.Tests.{ltb-true}
 use Rattle.model.specs.Histories.{Recording, recordingTake}
 use Rattle.model.specs.Machine as M
 use Rattle.model.specs.Machine.{Machine}
-use Rattle.model.specs.Questions as Q
 use Rattle.model.specs.Questions.{firstNo, fits, headerOk, putAll}
 use Rattle.model.specs.Session.{headerOf}
 use Rattle.model.specs.declared.Header.{Header}

@@ -1,9 +1,9 @@
 // A place in a track, and the event that stands there (question 12).
 ghost use mathlib.Core.Path.{_≡_};
-ghost use mathlib.Core.Bool.{true, false, cond};
+ghost use mathlib.Core.Bool.{cond};
 ghost use Prim.Native.Nat.{_+_, _*_, _/_, _≤_, _<_};
-ghost use lib.Dec.{leb, ltb, eqb};
-ghost use lib.ListN.{length, getD};
+ghost use lib.Dec.{ltb};
+ghost use lib.ListN.{length};
 ghost use Rattle.model.specs.Limits.{maxBeats, maxDelta};
 ghost use Rattle.midi.specs.Events.{place, channelMessage, channelAt, metaAt, sysexAt, ownStatus, behindTime, eventAt};
 ghost use Rattle.track.specs.Reading.{messageOf, placeOf, eventOf, secondAt, overAt, endAt};

@@ -9,7 +9,6 @@ use Rattle.model.specs.Takes.{word}
 use Rattle.model.specs.declared.Header.{Header}
 use Rattle.laws.specs.Clauses.{sound-chain}
 use Rattle.laws.specs.ChainSolid.{Parts, parts}
-use Rattle.session.specs.declared.header.Entry.the-variants as entries
 use Rattle.writer.specs.Files.{FileAsks, PartAsks, fileOf, fileIn}
 use Rattle.writer.proofs.Written.{file-length}
 

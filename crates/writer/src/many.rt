@@ -1,6 +1,5 @@
 // The file of many notes: their events are taken from the lanes window by window.
 ghost use mathlib.Core.Path.{_≡_};
-ghost use Prim.Native.Nat.{_≤_};
 ghost use lib.Dec.{leb};
 ghost use lib.ListN.{length};
 ghost use Rattle.order.specs.Events.{Ordered};

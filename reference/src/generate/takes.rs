@@ -1,7 +1,8 @@
 //! Sound shelves that need not come from any list of calls: their cells are
 //! chosen freely as far as soundness lets them be.
 
-use super::notes::Measures;
+use super::notes::{self, Measures};
+use crate::plain::{piece, rules};
 use crate::random::Random;
 
 /// Lane, beat, side, before, after, velocity.
@@ -9,8 +10,35 @@ type CellWords = [u32; 6];
 /// Lane, start, end, velocity of a note that touches no line.
 type NoteWords = [u32; 4];
 
+/// The words of a shelf of this session with freely chosen cells and the notes
+/// that the rules give from them, if they fit it.
+pub fn shelf_words(random: &mut Random, session: &[u32]) -> Option<Vec<u32>> {
+    let chosen = Measures { delta: session[0], epsilon: session[1], beats: random.between(0, 4) };
+    let lanes = notes::lanes(random, 2);
+    let (cells, inner) = cells_and_inner_notes(random, &chosen, &lanes);
+    let cells: Vec<piece::Cell> = cells.into_iter().map(cell).collect();
+    let inner: Vec<piece::Note> = inner.into_iter().map(note).collect();
+    let pieces = piece::of_take(&inner, &cells, chosen.delta.into());
+    let measures = rules::Measures {
+        delta: chosen.delta.into(),
+        epsilon: chosen.epsilon.into(),
+        shelf_words: session[3].into(),
+    };
+    rules::words(chosen.beats.into(), &pieces, &measures)
+}
+
+fn cell(words: CellWords) -> piece::Cell {
+    let [lane, beat, side, before, after, velocity] = words.map(u64::from);
+    piece::Cell { lane, beat, side, before, after, velocity }
+}
+
+fn note(words: NoteWords) -> piece::Note {
+    let [lane, start, end, velocity] = words.map(u64::from);
+    piece::Note { lane, start, end, velocity }
+}
+
 /// Cells in order, and the notes that touch no line.
-pub fn cells_and_inner_notes(
+fn cells_and_inner_notes(
     random: &mut Random,
     measures: &Measures,
     lanes: &[u32],

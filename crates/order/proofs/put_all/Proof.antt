@@ -7,9 +7,6 @@ use Rattle.order.specs.Whole.{Put, put-start, put-more, put-over}
 use borrow.Author.Needs.{needs}
 use Rattle.order.proofs.put_all.Statement.{statement}
 use Rattle.order.proofs.put_all.Tie as tie
-use Rattle.order.proofs.put_all.Reads as reads
-use Rattle.order.proofs.put_all.Lts as lts
-use Rattle.order.proofs.event_at.Reads as event-at-reads
 
 abbrev Inv-loop : tie.InvT-loop
 Inv-loop s count a₀ e₀ a e = Put (events s 0 count) a₀ a e
@@ -17,43 +14,33 @@ Inv-loop s count a₀ e₀ a e = Put (events s 0 count) a₀ a e
 abbrev μ-loop : tie.MeasureT-loop
 μ-loop s count a₀ e₀ a e = 2 * count - e
 
--- src/lib.rt:46:5
 loop-holds : tie.Need-loop-holds Inv-loop μ-loop
 loop-holds c = put-start _ _
 
--- src/lib.rt:46:15
 mul-loop : tie.Need-mul-loop Inv-loop μ-loop
 mul-loop c = search needs
 
--- src/lib.rt:47:16
 event-at-requires : tie.Need-event-at-requires Inv-loop μ-loop
 event-at-requires c κs = search needs
 
--- src/lib.rt:47:9
 mul-a : tie.Need-mul-a Inv-loop μ-loop
 mul-a c = search needs
 
--- src/lib.rt:47:9
 slice-write-a : tie.Need-slice-write-a Inv-loop μ-loop
 slice-write-a c = omega (arith, c .before .before .loop .inv .long, c .before .loop-test .taken, c .before .before .before .before .before .pre .1)
 
--- src/lib.rt:48:9
 add-e : tie.Need-add-e Inv-loop μ-loop
 add-e c = search needs
 
--- src/lib.rt:46:5
 loop-less : tie.Need-loop-less Inv-loop μ-loop
 loop-less c = search needs
 
--- src/lib.rt:46:5
 loop-again : tie.Need-loop-again Inv-loop μ-loop
 loop-again c = put-more _ (c .before .before .loop .inv) (length-events _ 0 _) (c .before .loop-test .taken) (omega (arith, c .before .before .loop .inv .long, c .before .loop-test .taken, c .before .before .before .before .before .pre .1)) (c .event-at .ensures)
 
--- src/lib.rt:41:1
 same-length : tie.Need-same-length Inv-loop μ-loop
 same-length c = c .before .loop .inv .long
 
--- src/lib.rt:41:1
 returns : tie.Need-returns Inv-loop μ-loop
 returns c = put-over (c .before .loop .inv) (sym (length-events _ 0 _)) (c .loop-test .left)
 

@@ -1,3 +1,4 @@
+-- `order::runs` meets its contract. Assumes nothing.
 use Rattle.order.specs.Runs.{Runs, runs-start, runs-more, runs-done}
 use lib.ListN.{length}
 use native.Mathlib.Omega.{arith}
@@ -6,9 +7,6 @@ use mathlib.Core.Path.{_≡_, refl}
 use borrow.Author.Needs.{needs}
 use Rattle.order.proofs.runs.Statement.{statement}
 use Rattle.order.proofs.runs.Tie as tie
-use Rattle.order.proofs.runs.Reads as reads
-use Rattle.order.proofs.runs.Lts as lts
-use Rattle.order.proofs.run_end.Reads as run-end-reads
 
 abbrev Inv-loop : tie.InvT-loop
 Inv-loop s count n pos₀ ends₀ i₀ l₀ pos ends i l = Runs s count pos ends i l × (l ≤ n) × (length pos ≡ length pos₀) × (length ends ≡ length ends₀)
@@ -16,67 +14,51 @@ Inv-loop s count n pos₀ ends₀ i₀ l₀ pos ends i l = Runs s count pos ends
 abbrev μ-loop : tie.MeasureT-loop
 μ-loop s count n pos₀ ends₀ i₀ l₀ pos ends i l = n - l
 
--- src/lib.rt:64:5
 loop-holds : tie.Need-loop-holds Inv-loop μ-loop
 loop-holds c = (runs-start _ _ _ _, search needs, refl, refl)
 
--- src/lib.rt:65:13
 run-end-requires : tie.Need-run-end-requires Inv-loop μ-loop
 run-end-requires c κs = search needs
 
--- src/lib.rt:66:19
 mul-pos : tie.Need-mul-pos Inv-loop μ-loop
 mul-pos c = search needs
 
--- src/lib.rt:66:18
 cast-pos : tie.Need-cast-pos Inv-loop μ-loop
 cast-pos c = search needs
 
--- src/lib.rt:66:9
 mul-pos-2 : tie.Need-mul-pos-2 Inv-loop μ-loop
 mul-pos-2 c = search needs
 
--- src/lib.rt:66:9
 slice-write-pos : tie.Need-slice-write-pos Inv-loop μ-loop
 slice-write-pos c = search needs
 
--- src/lib.rt:67:20
 mul-ends : tie.Need-mul-ends Inv-loop μ-loop
 mul-ends c = search needs
 
--- src/lib.rt:67:19
 cast-ends : tie.Need-cast-ends Inv-loop μ-loop
 cast-ends c = search needs
 
--- src/lib.rt:67:9
 mul-ends-2 : tie.Need-mul-ends-2 Inv-loop μ-loop
 mul-ends-2 c = search needs
 
--- src/lib.rt:67:9
 slice-write-ends : tie.Need-slice-write-ends Inv-loop μ-loop
 slice-write-ends c = search needs
 
--- src/lib.rt:69:9
 add-l : tie.Need-add-l Inv-loop μ-loop
 add-l c = search needs
 
--- src/lib.rt:64:5
 loop-less : tie.Need-loop-less Inv-loop μ-loop
 loop-less c = search needs
 
--- src/lib.rt:64:5
 loop-again : tie.Need-loop-again Inv-loop μ-loop
 loop-again c = let o = c .before .before .loop in (runs-more (c .before .before .before .before .before .before .pre .0) (o .inv .0) (omega arith) (omega arith) (c .run-end .ensures), search needs, search needs, search needs)
 
--- src/lib.rt:58:1
 same-length : tie.Need-same-length Inv-loop μ-loop
 same-length c = search needs
 
--- src/lib.rt:58:1
 same-length-2 : tie.Need-same-length-2 Inv-loop μ-loop
 same-length-2 c = search needs
 
--- src/lib.rt:58:1
 returns : tie.Need-returns Inv-loop μ-loop
 returns c = let o = c .before .loop in let e : o .l ≡ c .before .before .before .before .before .args .n = omega arith in runs-done (rw e at (o .inv .0)) (c .before .before .before .before .before .pre .1) (c .before .before .before .before .before .pre .2) (omega arith) (omega arith)
 

@@ -5,11 +5,6 @@ use native.Mathlib.Omega.{arith}
 use borrow.Author.Needs.{needs}
 use Rattle.beat.proofs.cells.put_cells.Statement.{statement}
 use Rattle.beat.proofs.cells.put_cells.Tie as tie
-use Rattle.beat.proofs.cells.put_cells.Reads as reads
-use Rattle.beat.proofs.cells.put_cells.Lts as lts
-use Rattle.beat.proofs.cells.put_note.Reads as put-note-reads
-use Rattle.session.proofs.beats.reciprocal.Reads as reciprocal-reads
-use Rattle.session.proofs.notes.note_at.Reads as note-at-reads
 
 abbrev Inv-loop : tie.InvT-loop
 Inv-loop s₀ at count delta end reciprocal from₀ to₀ s from to = Celling s₀ s at count delta end from to
@@ -17,47 +12,36 @@ Inv-loop s₀ at count delta end reciprocal from₀ to₀ s from to = Celling s�
 abbrev μ-loop : tie.MeasureT-loop
 μ-loop s₀ at count delta end reciprocal from₀ to₀ s from to = end - from
 
--- src/cells.rt:98:20
 mul-end : tie.Need-mul-end Inv-loop μ-loop
 mul-end c = search needs
 
--- src/cells.rt:98:15
 add-end : tie.Need-add-end Inv-loop μ-loop
 add-end c = search needs
 
--- src/cells.rt:99:9
 reciprocal-requires : tie.Need-reciprocal-requires Inv-loop μ-loop
 reciprocal-requires c κs = c .before .pre .range .0
 
--- src/cells.rt:102:5
 loop-holds : tie.Need-loop-holds Inv-loop μ-loop
 loop-holds c = celling-start (c .before .before .pre)
 
--- src/cells.rt:103:13
 note-at-requires : tie.Need-note-at-requires Inv-loop μ-loop
 note-at-requires c κs = room-note (c .before .before .before .before .before .pre) (c .before .before .loop .inv) (c .before .loop-test .taken)
 
--- src/cells.rt:104:9
 put-note-requires : tie.Need-put-note-requires Inv-loop μ-loop
 put-note-requires c κs = (note-asks (c .before .before .before .before .before .before .before .pre) (c .before .before .before .before .loop .inv) (c .before .before .before .loop-test .taken) (c .before .note-at .ensures), c .before .before .before .before .before .reciprocal .ensures)
 
--- src/cells.rt:105:9
 add-from : tie.Need-add-from Inv-loop μ-loop
 add-from c = omega (arith, room-note (c .before .before .before .before .before .before .before .before .before .before .pre) (c .before .before .before .before .before .before .before .loop .inv) (c .before .before .before .before .before .before .loop-test .taken))
 
--- src/cells.rt:102:5
 loop-less : tie.Need-loop-less Inv-loop μ-loop
 loop-less c = search needs
 
--- src/cells.rt:102:5
 loop-again : tie.Need-loop-again Inv-loop μ-loop
 loop-again c = celling-note (c .before .before .before .before .before .before .before .before .before .before .pre) (c .before .before .before .before .before .before .before .loop .inv) (c .before .before .before .before .before .before .loop-test .taken) (c .before .before .before .before .note-at .ensures) (c .before .before .put-note .ensures)
 
--- src/cells.rt:94:1
 same-length : tie.Need-same-length Inv-loop μ-loop
 same-length c = c .before .loop .inv .writes .long
 
--- src/cells.rt:94:1
 returns : tie.Need-returns Inv-loop μ-loop
 returns c = celled (c .before .before .before .before .pre) (c .before .loop .inv) (c .loop-test .left)
 

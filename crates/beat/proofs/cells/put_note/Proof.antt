@@ -5,37 +5,25 @@ use native.Mathlib.Omega.{arith}
 use borrow.Author.Needs.{needs}
 use Rattle.beat.proofs.cells.put_note.Statement.{statement}
 use Rattle.beat.proofs.cells.put_note.Tie as tie
-use Rattle.beat.proofs.cells.put_note.Reads as reads
-use Rattle.beat.proofs.cells.put_note.Lts as lts
-use Rattle.beat.proofs.cells.put_first.Reads as put-first-reads
-use Rattle.beat.proofs.cells.put_lines.Reads as put-lines-reads
-use Rattle.session.proofs.beats.beat_of.Reads as beat-of-reads
 
--- src/cells.rt:87:9
 beat-of-requires : tie.Need-beat-of-requires
 beat-of-requires c κs = let p = c .before .pre .0 .note in (p .0, p .1, omega (arith, p .2, p .3), c .before .pre .1)
 
--- src/cells.rt:88:16
 mul-line : tie.Need-mul-line
 mul-line c = rw (c .beat-of .ensures) (omega (arith, note-beats (c .before .before .args .delta) (c .before .before .args .n) (c .before .before .pre .0 .note)))
 
--- src/cells.rt:89:9
 put-first-requires : tie.Need-put-first-requires
 put-first-requires c κs = rw (c .before .beat-of .ensures) (first-asks (c .before .before .before .pre .0))
 
--- src/cells.rt:90:39
 add-put-lines : tie.Need-add-put-lines
 add-put-lines c = rw (c .before .before .before .before .before .beat-of .ensures) (omega (arith, note-beats (c .before .before .before .before .before .before .before .args .delta) (c .before .before .before .before .before .before .before .args .n) (c .before .before .before .before .before .before .before .pre .0 .note), c .before .before .before .before .before .before .before .pre .0 .note))
 
--- src/cells.rt:90:5
 put-lines-requires : tie.Need-put-lines-requires
 put-lines-requires c κs = rw (c .before .before .before .before .before .beat-of .ensures) (lines-asks (c .before .before .before .before .before .before .before .pre .0) (rw (c .before .before .before .before .before .beat-of .ensures) at (c .before .before .before .put-first .ensures)))
 
--- src/cells.rt:83:1
 same-length : tie.Need-same-length
 same-length c = search needs
 
--- src/cells.rt:83:1
 returns : tie.Need-returns
 returns c = note-made (c .before .before .before .before .before .before .before .before .before .before .pre .0) (rw (c .before .before .before .before .before .before .before .before .beat-of .ensures) at (c .before .before .before .before .before .before .put-first .ensures)) (rw (c .before .before .before .before .before .before .before .before .beat-of .ensures) at (c .before .before .put-lines .ensures))
 

@@ -4,10 +4,6 @@ use Rattle.cuts.proofs.JoinCells.{lower-asks, fewer, behind-lower, befo
 use borrow.Author.Needs.{needs}
 use Rattle.cuts.proofs.joined.put_before.Statement.{statement}
 use Rattle.cuts.proofs.joined.put_before.Tie as tie
-use Rattle.cuts.proofs.joined.put_before.Reads as reads
-use Rattle.cuts.proofs.joined.put_before.Lts as lts
-use Rattle.cuts.proofs.joined.put_lower.Reads as put-lower-reads
-use Rattle.words.proofs.put_six.Reads as put-six-reads
 
 put-lower-requires : tie.Need-put-lower-requires
 put-lower-requires c κs = lower-asks (c .before .before .pre)

@@ -4,11 +4,6 @@ use Rattle.cuts.proofs.JoinCells.{Joining, joining-start, first-place, 
 use borrow.Author.Needs.{needs}
 use Rattle.cuts.proofs.joined.put_joined_cells.Statement.{statement}
 use Rattle.cuts.proofs.joined.put_joined_cells.Tie as tie
-use Rattle.cuts.proofs.joined.put_joined_cells.Reads as reads
-use Rattle.cuts.proofs.joined.put_joined_cells.Lts as lts
-use Rattle.cuts.proofs.joined.put_before.Reads as put-before-reads
-use Rattle.cuts.proofs.joined.put_lower.Reads as put-lower-reads
-use Rattle.session.proofs.notes.cell_at.Reads as cell-at-reads
 
 abbrev Inv-loop : tie.InvT-loop
 Inv-loop s₀ to beats first second at₀ left₀ rest₀ s at left rest = Joining s₀ s to beats first second at left rest

@@ -4,10 +4,6 @@ use Rattle.cuts.proofs.JoinCells.{Lowering, lowering-start, lower-place
 use borrow.Author.Needs.{needs}
 use Rattle.cuts.proofs.joined.put_lower.Statement.{statement}
 use Rattle.cuts.proofs.joined.put_lower.Tie as tie
-use Rattle.cuts.proofs.joined.put_lower.Reads as reads
-use Rattle.cuts.proofs.joined.put_lower.Lts as lts
-use Rattle.session.proofs.notes.cell_at.Reads as cell-at-reads
-use Rattle.words.proofs.put_six.Reads as put-six-reads
 
 abbrev Inv-loop : tie.InvT-loop
 Inv-loop s₀ to lane beats end left at₀ rest₀ s at rest = Lowering s₀ s to lane beats end left at rest

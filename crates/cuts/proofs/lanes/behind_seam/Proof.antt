@@ -3,9 +3,6 @@ use Rattle.cuts.proofs.LaneSeam.{back-apart, back-whole, back-none, bac
 use borrow.Author.Needs.{needs}
 use Rattle.cuts.proofs.lanes.behind_seam.Statement.{statement}
 use Rattle.cuts.proofs.lanes.behind_seam.Tie as tie
-use Rattle.cuts.proofs.lanes.behind_seam.Reads as reads
-use Rattle.cuts.proofs.lanes.behind_seam.Lts as lts
-use Rattle.session.proofs.notes.note_at.Reads as note-at-reads
 
 returns : tie.Need-returns
 returns c = back-apart _ _ _ _ _ (c .if1 .taken)

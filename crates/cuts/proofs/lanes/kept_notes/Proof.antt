@@ -3,8 +3,6 @@ use Rattle.cuts.proofs.LaneSeam.{kept-all, kept-none, kept-less}
 use borrow.Author.Needs.{needs}
 use Rattle.cuts.proofs.lanes.kept_notes.Statement.{statement}
 use Rattle.cuts.proofs.lanes.kept_notes.Tie as tie
-use Rattle.cuts.proofs.lanes.kept_notes.Reads as reads
-use Rattle.cuts.proofs.lanes.kept_notes.Lts as lts
 
 returns : tie.Need-returns
 returns c = kept-all _ _ (c .if1 .taken)

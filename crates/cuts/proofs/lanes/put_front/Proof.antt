@@ -3,12 +3,6 @@ use Rattle.cuts.proofs.LaneWrites.{first-asks, cell-run-asks, count-few
 use borrow.Author.Needs.{needs}
 use Rattle.cuts.proofs.lanes.put_front.Statement.{statement}
 use Rattle.cuts.proofs.lanes.put_front.Tie as tie
-use Rattle.cuts.proofs.lanes.put_front.Reads as reads
-use Rattle.cuts.proofs.lanes.put_front.Lts as lts
-use Rattle.cuts.proofs.lanes.put_seam.Reads as put-seam-reads
-use Rattle.cuts.proofs.lanes.seam_of.Reads as seam-of-reads
-use Rattle.cuts.proofs.seam.behind_cell_run.Reads as behind-cell-run-reads
-use Rattle.cuts.proofs.seam.put_note_run.Reads as put-note-run-reads
 
 put-note-run-requires : tie.Need-put-note-run-requires
 put-note-run-requires c κs = first-asks (c .before .before .args .lane) (c .before .before .pre)

@@ -4,10 +4,6 @@ use Prim.Native.Nat.{_-_}
 use Rattle.cuts.proofs.LaneWalk.{Walking, line-word, walk-start, both-in, walk-next, walk-later, walk-done, lane-asks, walk-lane}
 use Rattle.cuts.proofs.lanes.put_joined_notes.Statement.{statement}
 use Rattle.cuts.proofs.lanes.put_joined_notes.Tie as tie
-use Rattle.cuts.proofs.lanes.put_joined_notes.Reads as reads
-use Rattle.cuts.proofs.lanes.put_joined_notes.Lts as lts
-use Rattle.cuts.proofs.lanes.put_lane.Reads as put-lane-reads
-use Rattle.cuts.proofs.seam.least_lane.Reads as least-lane-reads
 
 abbrev Inv-loop : tie.InvT-loop
 Inv-loop s₀ to h beats line rests₀ lane₀ s rests lane = Walking s₀ s (rests₀ .at) h beats (rests₀ .first) (rests₀ .second) rests lane

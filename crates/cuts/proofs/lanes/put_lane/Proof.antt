@@ -4,13 +4,6 @@ use Rattle.cuts.proofs.LaneWrites.{back-asks, second-asks, second-cells
 use borrow.Author.Needs.{needs}
 use Rattle.cuts.proofs.lanes.put_lane.Statement.{statement}
 use Rattle.cuts.proofs.lanes.put_lane.Tie as tie
-use Rattle.cuts.proofs.lanes.put_lane.Reads as reads
-use Rattle.cuts.proofs.lanes.put_lane.Lts as lts
-use Rattle.cuts.proofs.lanes.behind_seam.Reads as behind-seam-reads
-use Rattle.cuts.proofs.lanes.left_of.Reads as left-of-reads
-use Rattle.cuts.proofs.lanes.put_front.Reads as put-front-reads
-use Rattle.cuts.proofs.seam.behind_cell_run.Reads as behind-cell-run-reads
-use Rattle.cuts.proofs.seam.put_note_run.Reads as put-note-run-reads
 
 put-front-requires : tie.Need-put-front-requires
 put-front-requires c κs = c .before .before .pre

@@ -4,10 +4,6 @@ use Rattle.cuts.proofs.LaneSeam.{kept-few, put-apart, over-room, put-ov
 use borrow.Author.Needs.{needs}
 use Rattle.cuts.proofs.lanes.put_seam.Statement.{statement}
 use Rattle.cuts.proofs.lanes.put_seam.Tie as tie
-use Rattle.cuts.proofs.lanes.put_seam.Reads as reads
-use Rattle.cuts.proofs.lanes.put_seam.Lts as lts
-use Rattle.cuts.proofs.lanes.kept_notes.Reads as kept-notes-reads
-use Rattle.words.proofs.put_four.Reads as put-four-reads
 
 mul-result : tie.Need-mul-result
 mul-result c = search needs

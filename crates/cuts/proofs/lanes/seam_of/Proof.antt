@@ -4,12 +4,6 @@ use Rattle.cuts.proofs.LaneSeam.{seam-no-first, seam-no-second, seam-ot
 use borrow.Author.Needs.{needs}
 use Rattle.cuts.proofs.lanes.seam_of.Statement.{statement}
 use Rattle.cuts.proofs.lanes.seam_of.Tie as tie
-use Rattle.cuts.proofs.lanes.seam_of.Reads as reads
-use Rattle.cuts.proofs.lanes.seam_of.Lts as lts
-use Rattle.cuts.proofs.lanes.no_seam.Reads as no-seam-reads
-use Rattle.cuts.proofs.seam.bound_over.Reads as bound-over-reads
-use Rattle.cuts.proofs.seam.seam_over.Reads as seam-over-reads
-use Rattle.session.proofs.notes.cell_at.Reads as cell-at-reads
 
 no-seam-requires : tie.Need-no-seam-requires
 no-seam-requires c κs = search needs

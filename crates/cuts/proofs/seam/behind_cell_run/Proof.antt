@@ -8,9 +8,6 @@ use Rattle.cuts.proofs.JoinSeam.{cells-go, cells-stop, cells-end}
 use borrow.Author.Needs.{needs}
 use Rattle.cuts.proofs.seam.behind_cell_run.Statement.{statement}
 use Rattle.cuts.proofs.seam.behind_cell_run.Tie as tie
-use Rattle.cuts.proofs.seam.behind_cell_run.Reads as reads
-use Rattle.cuts.proofs.seam.behind_cell_run.Lts as lts
-use Rattle.session.proofs.notes.cell_at.Reads as cell-at-reads
 
 abbrev Inv-loop : tie.InvT-loop
 Inv-loop s end left lane rest₀ rest = (cellRest lane (lastCells s end rest) ≡ cellRest lane (lastCells s end left)) × (rest ≤ left)

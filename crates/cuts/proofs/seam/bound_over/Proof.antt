@@ -4,9 +4,6 @@ use Rattle.cuts.proofs.JoinSeam.{over-not-closing, over-not-last, over-
 use borrow.Author.Needs.{needs}
 use Rattle.cuts.proofs.seam.bound_over.Statement.{statement}
 use Rattle.cuts.proofs.seam.bound_over.Tie as tie
-use Rattle.cuts.proofs.seam.bound_over.Reads as reads
-use Rattle.cuts.proofs.seam.bound_over.Lts as lts
-use Rattle.session.proofs.rules.is_bound.Reads as is-bound-reads
 
 returns : tie.Need-returns
 returns c = over-not-closing _ _ _ _ (c .if1 .taken)

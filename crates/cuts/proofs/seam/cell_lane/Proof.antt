@@ -4,9 +4,6 @@ use Rattle.cuts.proofs.JoinSeam.{cell-ahead, no-cell-ahead}
 use borrow.Author.Needs.{needs}
 use Rattle.cuts.proofs.seam.cell_lane.Statement.{statement}
 use Rattle.cuts.proofs.seam.cell_lane.Tie as tie
-use Rattle.cuts.proofs.seam.cell_lane.Reads as reads
-use Rattle.cuts.proofs.seam.cell_lane.Lts as lts
-use Rattle.session.proofs.notes.cell_at.Reads as cell-at-reads
 
 returns : tie.Need-returns
 returns c = no-cell-ahead _ _ _ (c .if1 .taken)

@@ -3,8 +3,6 @@ use Rattle.cuts.proofs.JoinSeam.{ending-low}
 use borrow.Author.Needs.{needs}
 use Rattle.cuts.proofs.seam.ending.Statement.{statement}
 use Rattle.cuts.proofs.seam.ending.Tie as tie
-use Rattle.cuts.proofs.seam.ending.Reads as reads
-use Rattle.cuts.proofs.seam.ending.Lts as lts
 
 returns : tie.Need-returns
 returns c = ending-low _ _ _ _ (c .if1 .taken)

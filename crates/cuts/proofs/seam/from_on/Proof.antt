@@ -4,11 +4,6 @@ use Rattle.cuts.proofs.JoinSeam.{on-end, on-other, on-short, on-note}
 use borrow.Author.Needs.{needs}
 use Rattle.cuts.proofs.seam.from_on.Statement.{statement}
 use Rattle.cuts.proofs.seam.from_on.Tie as tie
-use Rattle.cuts.proofs.seam.from_on.Reads as reads
-use Rattle.cuts.proofs.seam.from_on.Lts as lts
-use Rattle.cuts.proofs.seam.starting.Reads as starting-reads
-use Rattle.session.proofs.notes.note_at.Reads as note-at-reads
-use Rattle.session.proofs.rules.stands_alone.Reads as stands-alone-reads
 
 starting-requires : tie.Need-starting-requires
 starting-requires c κs = search needs

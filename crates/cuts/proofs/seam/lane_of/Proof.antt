@@ -3,11 +3,6 @@ use Rattle.cuts.proofs.JoinSeam.{lane-is}
 use borrow.Author.Needs.{needs}
 use Rattle.cuts.proofs.seam.lane_of.Statement.{statement}
 use Rattle.cuts.proofs.seam.lane_of.Tie as tie
-use Rattle.cuts.proofs.seam.lane_of.Reads as reads
-use Rattle.cuts.proofs.seam.lane_of.Lts as lts
-use Rattle.cuts.proofs.seam.cell_lane.Reads as cell-lane-reads
-use Rattle.cuts.proofs.seam.lesser.Reads as lesser-reads
-use Rattle.cuts.proofs.seam.note_lane.Reads as note-lane-reads
 
 note-lane-requires : tie.Need-note-lane-requires
 note-lane-requires c κs = search needs

@@ -3,10 +3,6 @@ use Rattle.cuts.proofs.JoinSeam.{least-is}
 use borrow.Author.Needs.{needs}
 use Rattle.cuts.proofs.seam.least_lane.Statement.{statement}
 use Rattle.cuts.proofs.seam.least_lane.Tie as tie
-use Rattle.cuts.proofs.seam.least_lane.Reads as reads
-use Rattle.cuts.proofs.seam.least_lane.Lts as lts
-use Rattle.cuts.proofs.seam.lane_of.Reads as lane-of-reads
-use Rattle.cuts.proofs.seam.lesser.Reads as lesser-reads
 
 lane-of-requires : tie.Need-lane-of-requires
 lane-of-requires c κs = search needs

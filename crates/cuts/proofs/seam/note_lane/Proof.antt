@@ -4,9 +4,6 @@ use Rattle.cuts.proofs.JoinSeam.{note-ahead, no-note-ahead}
 use borrow.Author.Needs.{needs}
 use Rattle.cuts.proofs.seam.note_lane.Statement.{statement}
 use Rattle.cuts.proofs.seam.note_lane.Tie as tie
-use Rattle.cuts.proofs.seam.note_lane.Reads as reads
-use Rattle.cuts.proofs.seam.note_lane.Lts as lts
-use Rattle.session.proofs.notes.note_at.Reads as note-at-reads
 
 returns : tie.Need-returns
 returns c = no-note-ahead _ _ _ (c .if1 .taken)

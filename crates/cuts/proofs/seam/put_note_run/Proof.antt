@@ -4,10 +4,6 @@ use Rattle.cuts.proofs.JoinSeam.{Running, running-start, run-place, run
 use borrow.Author.Needs.{needs}
 use Rattle.cuts.proofs.seam.put_note_run.Statement.{statement}
 use Rattle.cuts.proofs.seam.put_note_run.Tie as tie
-use Rattle.cuts.proofs.seam.put_note_run.Reads as reads
-use Rattle.cuts.proofs.seam.put_note_run.Lts as lts
-use Rattle.session.proofs.notes.note_at.Reads as note-at-reads
-use Rattle.words.proofs.put_four.Reads as put-four-reads
 
 abbrev Inv-loop : tie.InvT-loop
 Inv-loop s₀ to lane ticks end left at₀ rest₀ s at rest = Running s₀ s to lane ticks end left at rest

@@ -4,11 +4,6 @@ use Rattle.cuts.proofs.JoinSeam.{over-end, over-is}
 use borrow.Author.Needs.{needs}
 use Rattle.cuts.proofs.seam.seam_over.Statement.{statement}
 use Rattle.cuts.proofs.seam.seam_over.Tie as tie
-use Rattle.cuts.proofs.seam.seam_over.Reads as reads
-use Rattle.cuts.proofs.seam.seam_over.Lts as lts
-use Rattle.cuts.proofs.seam.from_on.Reads as from-on-reads
-use Rattle.cuts.proofs.seam.up_to.Reads as up-to-reads
-use Rattle.session.proofs.rules.stands_alone.Reads as stands-alone-reads
 
 up-to-requires : tie.Need-up-to-requires
 up-to-requires c κs = c .before .pre .first-read

@@ -5,11 +5,6 @@ use Rattle.cuts.proofs.JoinSeam.{up-none, up-short, up-inside, up-last}
 use borrow.Author.Needs.{needs}
 use Rattle.cuts.proofs.seam.up_to.Statement.{statement}
 use Rattle.cuts.proofs.seam.up_to.Tie as tie
-use Rattle.cuts.proofs.seam.up_to.Reads as reads
-use Rattle.cuts.proofs.seam.up_to.Lts as lts
-use Rattle.cuts.proofs.seam.ending.Reads as ending-reads
-use Rattle.session.proofs.notes.note_at.Reads as note-at-reads
-use Rattle.session.proofs.rules.stands_alone.Reads as stands-alone-reads
 
 ending-requires : tie.Need-ending-requires
 ending-requires c κs = search needs

@@ -3,31 +3,22 @@ use Rattle.file.proofs.ChunkLoops.{fits-format, fits-tracks, fits-last}
 use borrow.Author.Needs.{needs}
 use Rattle.file.proofs.chunks.header_fits.Statement.{statement}
 use Rattle.file.proofs.chunks.header_fits.Tie as tie
-use Rattle.file.proofs.chunks.header_fits.Reads as reads
-use Rattle.file.proofs.chunks.header_fits.Lts as lts
-use Rattle.track.proofs.bytes.word16.Reads as word16-reads
 
--- src/chunks.rt:61:8
 word16-requires : tie.Need-word16-requires
 word16-requires c κs = search needs
 
--- src/chunks.rt:62:9
 returns : tie.Need-returns
 returns c = fits-format _ _ _ (c .before .word16 .ensures .0) (c .if1 .taken)
 
--- src/chunks.rt:64:8
 word16-requires-2 : tie.Need-word16-requires-2
 word16-requires-2 c κs = search needs
 
--- src/chunks.rt:65:9
 returns-2 : tie.Need-returns-2
 returns-2 c = fits-tracks _ _ _ (c .before .before .before .word16 .ensures .0) (c .before .before .if1 .left) _ (c .before .word162 .ensures .0) (c .if2 .taken)
 
--- src/chunks.rt:67:5
 word16-requires-3 : tie.Need-word16-requires-3
 word16-requires-3 c κs = search needs
 
--- src/chunks.rt:57:1
 returns-3 : tie.Need-returns-3
 returns-3 c = fits-last _ _ _ (c .before .before .before .before .word16 .ensures .0) (c .before .before .before .if1 .left) _ (c .before .before .word162 .ensures .0) (c .before .if2 .left) _ (c .word163 .ensures .0)
 

@@ -9,9 +9,6 @@ use Rattle.file.proofs.ChunkLoops.{chunk-short, chunk-cut, chunk-track,
 use borrow.Author.Needs.{needs}
 use Rattle.file.proofs.chunks.track_from.Statement.{statement}
 use Rattle.file.proofs.chunks.track_from.Tie as tie
-use Rattle.file.proofs.chunks.track_from.Reads as reads
-use Rattle.file.proofs.chunks.track_from.Lts as lts
-use Rattle.track.proofs.bytes.word32.Reads as word32-reads
 
 abbrev Inv-chunks : tie.InvT-chunks
 Inv-chunks s from at₀ at = (at ≤ length s) × (trackAfter s from ≡ trackAfter s at)
@@ -19,63 +16,48 @@ Inv-chunks s from at₀ at = (at ≤ length s) × (trackAfter s from ≡ trackAf
 abbrev μ-chunks : tie.MeasureT-chunks
 μ-chunks s from at₀ at = length s - at
 
--- src/chunks.rt:76:9
 chunks-holds : tie.Need-chunks-holds Inv-chunks μ-chunks
 chunks-holds c = (c .before .pre, refl)
 
--- src/chunks.rt:77:12
 sub-if1 : tie.Need-sub-if1 Inv-chunks μ-chunks
 sub-if1 c = search needs
 
--- src/chunks.rt:80:21
 add-start : tie.Need-add-start Inv-chunks μ-chunks
 add-start c = search needs
 
--- src/chunks.rt:81:30
 add-word32 : tie.Need-add-word32 Inv-chunks μ-chunks
 add-word32 c = search needs
 
--- src/chunks.rt:81:20
 word32-requires : tie.Need-word32-requires Inv-chunks μ-chunks
 word32-requires c κs = search needs
 
--- src/chunks.rt:81:20
 cast-size : tie.Need-cast-size Inv-chunks μ-chunks
 cast-size c = search needs
 
--- src/chunks.rt:82:12
 sub-if2 : tie.Need-sub-if2 Inv-chunks μ-chunks
 sub-if2 c = search needs
 
--- src/chunks.rt:85:12
 word32-requires-2 : tie.Need-word32-requires-2 Inv-chunks μ-chunks
 word32-requires-2 c κs = search needs
 
--- src/chunks.rt:88:22
 add-t12 : tie.Need-add-t12 Inv-chunks μ-chunks
 add-t12 c = search needs
 
--- src/chunks.rt:86:13
 returns : tie.Need-returns Inv-chunks μ-chunks
 returns c = sym (ap chunkPlace (c .before .before .before .before .before .chunks .inv .1 ∙ chunk-track _ _ (c .before .before .before .before .before .chunks .inv .0) (c .before .before .before .before .if1 .left) _ (c .before .before .before .word32 .ensures) (c .before .before .if2 .left) _ (c .before .word322 .ensures) (c .if3 .taken)))
 
--- src/chunks.rt:91:14
 add-at : tie.Need-add-at Inv-chunks μ-chunks
 add-at c = search needs
 
--- src/chunks.rt:76:9
 chunks-less : tie.Need-chunks-less Inv-chunks μ-chunks
 chunks-less c = search needs
 
--- src/chunks.rt:76:9
 chunks-again : tie.Need-chunks-again Inv-chunks μ-chunks
 chunks-again c = (omega (arith, c .before .before .before .before .if1 .left, c .before .before .if2 .left, c .before .before .before .before .before .chunks .inv .0), c .before .before .before .before .before .chunks .inv .1 ∙ chunk-other _ _ (c .before .before .before .before .before .chunks .inv .0) (c .before .before .before .before .if1 .left) _ (c .before .before .before .word32 .ensures) (c .before .before .if2 .left) _ (c .before .word322 .ensures) (c .if3 .left))
 
--- src/chunks.rt:71:1
 returns-2 : tie.Need-returns-2 Inv-chunks μ-chunks
 returns-2 c = sym (ap chunkPlace (c .before .chunks .inv .1 ∙ chunk-short _ _ (c .before .chunks .inv .0) (c .if1 .taken)))
 
--- src/chunks.rt:71:1
 returns-3 : tie.Need-returns-3 Inv-chunks μ-chunks
 returns-3 c = sym (ap chunkPlace (c .before .before .before .chunks .inv .1 ∙ chunk-cut _ _ (c .before .before .before .chunks .inv .0) (c .before .before .if1 .left) _ (c .before .word32 .ensures) (c .if2 .taken)))
 

@@ -6,46 +6,31 @@ use Rattle.file.proofs.ChunkLoops.{there-long, place-none, place-misfit
 use borrow.Author.Needs.{needs}
 use Rattle.file.proofs.chunks.track_in.Statement.{statement}
 use Rattle.file.proofs.chunks.track_in.Tie as tie
-use Rattle.file.proofs.chunks.track_in.Reads as reads
-use Rattle.file.proofs.chunks.track_in.Lts as lts
-use Rattle.file.proofs.chunks.header_fits.Reads as header-fits-reads
-use Rattle.file.proofs.chunks.header_there.Reads as header-there-reads
-use Rattle.file.proofs.chunks.track_from.Reads as track-from-reads
-use Rattle.track.proofs.bytes.word32.Reads as word32-reads
 
--- src/chunks.rt:100:9
 header-there-requires : tie.Need-header-there-requires
 header-there-requires c κs = search needs
 
--- src/chunks.rt:101:9
 returns : tie.Need-returns
 returns c = place-none _ _ (sym (c .before .header-there .ensures) ∙ not-true _ (c .if1 .taken))
 
--- src/chunks.rt:103:9
 header-fits-requires : tie.Need-header-fits-requires
 header-fits-requires c κs = let h = there-long _ (sym (c .before .header-there .ensures) ∙ not-false _ (c .if1 .left)) in omega (arith, h .0, h .1)
 
--- src/chunks.rt:104:9
 returns-2 : tie.Need-returns-2
 returns-2 c = place-misfit _ _ (sym (c .before .before .before .header-there .ensures) ∙ not-false _ (c .before .before .if1 .left)) (sym (c .before .header-fits .ensures) ∙ not-true _ (c .if2 .taken))
 
--- src/chunks.rt:106:23
 word32-requires : tie.Need-word32-requires
 word32-requires c κs = let h = there-long _ (sym (c .before .before .before .header-there .ensures) ∙ not-false _ (c .before .before .if1 .left)) in omega (arith, h .0, h .1)
 
--- src/chunks.rt:106:23
 cast-track-from : tie.Need-cast-track-from
 cast-track-from c = search needs
 
--- src/chunks.rt:106:19
 add-track-from : tie.Need-add-track-from
 add-track-from c = search needs
 
--- src/chunks.rt:106:5
 track-from-requires : tie.Need-track-from-requires
 track-from-requires c κs = let h = there-long _ (sym (c .before .before .before .before .header-there .ensures) ∙ not-false _ (c .before .before .before .if1 .left)) in omega (arith, h .1, c .word32 .ensures)
 
--- src/chunks.rt:97:1
 returns-3 : tie.Need-returns-3
 returns-3 c = c .track-from .ensures ∙ place-chunks _ _ (sym (c .before .before .before .before .before .header-there .ensures) ∙ not-false _ (c .before .before .before .before .if1 .left)) (sym (c .before .before .before .header-fits .ensures) ∙ not-false _ (c .before .before .if2 .left)) _ (c .before .word32 .ensures)
 

@@ -9,12 +9,6 @@ use mathlib.Core.Path.{sym, ap, _∙_}
 use borrow.Author.Needs.{needs}
 use Rattle.file.proofs.writing.take_write.Statement.{statement}
 use Rattle.file.proofs.writing.take_write.Tie as tie
-use Rattle.file.proofs.writing.take_write.Reads as reads
-use Rattle.file.proofs.writing.take_write.Lts as lts
-use Rattle.session.proofs.header.enter.Reads as enter-reads
-use Rattle.session.proofs.header.shelf_at.Reads as shelf-at-reads
-use Rattle.session.proofs.sound.sound.Reads as sound-reads
-use Rattle.writer.proofs.files.put_shelf_file.Reads as put-shelf-file-reads
 
 enter-requires : tie.Need-enter-requires
 enter-requires c κs = search needs

@@ -7,53 +7,37 @@ use native.Mathlib.Omega.{arith}
 use borrow.Author.Needs.{needs}
 use Rattle.frames.proofs.answers.answer.Statement.{statement}
 use Rattle.frames.proofs.answers.answer.Tie as tie
-use Rattle.frames.proofs.answers.answer.Reads as reads
-use Rattle.frames.proofs.answers.answer.Lts as lts
-use Rattle.frames.proofs.answers.answer_frame.Reads as answer-frame-reads
-use Rattle.frames.proofs.answers.put_number.Reads as put-number-reads
-use Rattle.frames.proofs.digits.decode.Reads as decode-reads
 
--- src/answers.rt:95:38
 slice-aggregate-decode : tie.Need-slice-aggregate-decode
 slice-aggregate-decode c = search needs
 
--- src/answers.rt:95:9
 decode-requires : tie.Need-decode-requires
 decode-requires c κs = search needs
 
--- src/answers.rt:99:18
 put-number-requires : tie.Need-put-number-requires
 put-number-requires c κs = search needs
 
--- src/answers.rt:97:9
 same-length : tie.Need-same-length
 same-length c = search needs
 
--- src/answers.rt:97:9
 returns : tie.Need-returns
 returns c = answer-none _ _ _ _ _ (c .before .before .before .before .before .before .before .before .before .before .before .pre .0) (c .before .before .before .before .before .before .before .before .before .before .before .pre .1) (omega (arith, c .before .before .before .before .before .before .decode .ensures .0, c .before .before .before .before .if1 .taken)) (c .before .before .put-number .ensures)
 
--- src/answers.rt:102:18
 array-share-prefix-bytes : tie.Need-array-share-prefix-bytes
 array-share-prefix-bytes c = omega (arith, c .before .before .decode .ensures .2)
 
--- src/answers.rt:102:18
 slice-aggregate-answer-frame : tie.Need-slice-aggregate-answer-frame
 slice-aggregate-answer-frame c = c .before .before .before .decode .ensures .0 ∙ sym (ap length (c .before .before .before .decode .ensures .1))
 
--- src/answers.rt:102:5
 answer-frame-requires : tie.Need-answer-frame-requires
 answer-frame-requires c κs = omega (arith, c .before .before .before .before .before .decode .ensures .0, c .before .before .before .before .before .decode .ensures .2, ap length (c .before .before .before .before .before .decode .ensures .1), c .before .before .before .if1 .left)
 
--- src/answers.rt:90:1
 same-length-2 : tie.Need-same-length-2
 same-length-2 c = search needs
 
--- src/answers.rt:90:1
 same-length-3 : tie.Need-same-length-3
 same-length-3 c = search needs
 
--- src/answers.rt:90:1
 returns-2 : tie.Need-returns-2
 unfolding frameIn
 returns-2 c = rw (c .before .before .before .before .before .before .before .before .before .before .decode .ensures .1) at (c .before .before .before .before .answer-frame .ensures)

@@ -6,98 +6,70 @@ use native.Mathlib.Omega.{arith}
 use borrow.Author.Needs.{needs}
 use Rattle.frames.proofs.answers.answer_frame.Statement.{statement}
 use Rattle.frames.proofs.answers.answer_frame.Tie as tie
-use Rattle.frames.proofs.answers.answer_frame.Reads as reads
-use Rattle.frames.proofs.answers.answer_frame.Lts as lts
-use Rattle.frames.proofs.answers.answer_write.Reads as answer-write-reads
-use Rattle.frames.proofs.answers.change.Reads as change-reads
-use Rattle.frames.proofs.answers.put_number.Reads as put-number-reads
-use Rattle.frames.proofs.calls.open_frame.Reads as open-frame-reads
 
--- src/answers.rt:67:16
 shared-slice-read-call : tie.Need-shared-slice-read-call
 shared-slice-read-call c = search needs
 
--- src/answers.rt:68:17
 sub-bytes : tie.Need-sub-bytes
 sub-bytes c = search needs
 
--- src/answers.rt:68:17
 part-bytes-start : tie.Need-part-bytes-start
 part-bytes-start c = search needs
 
--- src/answers.rt:68:17
 part-bytes-end : tie.Need-part-bytes-end
 part-bytes-end c = search needs
 
--- src/answers.rt:70:13
 open-frame-requires : tie.Need-open-frame-requires
 open-frame-requires c κs = search needs
 
--- src/answers.rt:73:18
 put-number-requires : tie.Need-put-number-requires
 put-number-requires c κs = omega (arith, opened-few (c .before .before .before .open-frame .ensures))
 
--- src/answers.rt:71:9
 same-length : tie.Need-same-length
 same-length c = search needs
 
--- src/answers.rt:71:9
 same-length-2 : tie.Need-same-length-2
 same-length-2 c = search needs
 
--- src/answers.rt:71:9
 returns : tie.Need-returns
 returns c = rw (frame-open _ (c .before .before .before .before .before .before .before .before .before .before .before .before .before .before .pre .0) (c .before .before .before .before .before .before .before .before .if1 .taken)) (answer-open _ _ _ _ _ (c .before .before .before .before .before .before .open-frame .ensures) (c .before .before .put-number .ensures))
 
--- src/answers.rt:79:31
 slice-reshare-prefix-answer-write : tie.Need-slice-reshare-prefix-answer-write
 slice-reshare-prefix-answer-write c = search needs
 
--- src/answers.rt:79:31
 slice-aggregate-answer-write : tie.Need-slice-aggregate-answer-write
 slice-aggregate-answer-write c = sym (length-take-le _ _ (omega arith))
 
--- src/answers.rt:79:18
 answer-write-requires : tie.Need-answer-write-requires
 answer-write-requires c κs = search needs
 
--- src/answers.rt:77:9
 same-length-3 : tie.Need-same-length-3
 same-length-3 c = search needs
 
--- src/answers.rt:77:9
 same-length-4 : tie.Need-same-length-4
 same-length-4 c = search needs
 
--- src/answers.rt:77:9
 returns-2 : tie.Need-returns-2
 returns-2 c = rw (frame-write _ (c .before .before .before .before .before .before .before .before .before .before .before .before .pre .0) (c .before .before .before .before .before .if2 .taken)) (answer-same _ _ _ _ _ (c .before .before .before .before .before .before .before .before .before .before .before .before .pre .2) (c .before .before .before .before .before .before .before .before .before .before .before .before .pre .3) (write-leaves _ _) (c .before .before .answer-write .ensures))
 
--- src/answers.rt:82:25
 slice-relend-prefix-change : tie.Need-slice-relend-prefix-change
 slice-relend-prefix-change c = search needs
 
--- src/answers.rt:82:25
 slice-aggregate-change : tie.Need-slice-aggregate-change
 slice-aggregate-change c = sym (length-take-le _ _ (omega arith))
 
--- src/answers.rt:82:9
 change-requires : tie.Need-change-requires
 change-requires c κs = search needs
 
--- src/answers.rt:85:14
 put-number-requires-2 : tie.Need-put-number-requires-2
 put-number-requires-2 c κs = omega (arith, changed-few (c .before .before .before .change .ensures))
 
--- src/answers.rt:63:1
 same-length-5 : tie.Need-same-length-5
 same-length-5 c = search needs
 
--- src/answers.rt:63:1
 same-length-6 : tie.Need-same-length-6
 same-length-6 c = search needs
 
--- src/answers.rt:63:1
 returns-3 : tie.Need-returns-3
 returns-3 c = rw (frame-change _ (c .before .before .before .before .before .before .before .before .before .before .before .before .before .before .before .pre .0) (c .before .before .before .before .before .before .before .before .before .if1 .left) (c .before .before .before .before .before .before .before .before .if2 .left)) (answer-change _ _ _ _ _ (c .before .before .before .before .before .before .before .before .before .before .before .before .before .before .before .pre .2) (c .before .before .before .before .before .before .before .before .before .before .before .before .before .before .before .pre .3) (omega (arith, length-take-le (c .before .before .before .before .before .before .before .before .before .before .before .before .before .before .before .args .held) (c .before .before .before .before .before .before .before .before .before .before .before .before .before .before .before .args .words .now) (omega arith))) (c .before .before .before .before .before .before .change .ensures) (c .before .before .put-number2 .ensures))
 

@@ -6,53 +6,37 @@ use native.Mathlib.Omega.{arith}
 use borrow.Author.Needs.{needs}
 use Rattle.frames.proofs.calls.lay.Statement.{statement}
 use Rattle.frames.proofs.calls.lay.Tie as tie
-use Rattle.frames.proofs.calls.lay.Reads as reads
-use Rattle.frames.proofs.calls.lay.Lts as lts
-use Rattle.beat.proofs.laying.take_lay.Reads as take-lay-reads
-use Rattle.frames.proofs.calls.read_words.Reads as read-words-reads
-use Rattle.frames.proofs.calls.word_at.Reads as word-at-reads
 
--- src/calls.rt:56:9
 returns : tie.Need-returns
 returns c = lay-short _ _ (c .if1 .taken)
 
--- src/calls.rt:59:9
 returns-2 : tie.Need-returns-2
 returns-2 c = lay-incomplete _ _ (c .if2 .taken)
 
--- src/calls.rt:61:38
 slice-aggregate-read-words : tie.Need-slice-aggregate-read-words
 slice-aggregate-read-words c = search needs
 
--- src/calls.rt:61:9
 read-words-requires : tie.Need-read-words-requires
 read-words-requires c κs = search needs
 
--- src/calls.rt:62:31
 word-at-requires : tie.Need-word-at-requires
 word-at-requires c κs = search needs
 
--- src/calls.rt:62:50
 word-at-requires-2 : tie.Need-word-at-requires-2
 word-at-requires-2 c κs = search needs
 
--- src/calls.rt:62:69
 array-share-prefix-words : tie.Need-array-share-prefix-words
 array-share-prefix-words c = search needs
 
--- src/calls.rt:62:69
 slice-aggregate-take-lay : tie.Need-slice-aggregate-take-lay
 slice-aggregate-take-lay c = sym (length-take-le _ _ (c .before .before .before .before .before .read-words .ensures .1))
 
--- src/calls.rt:62:5
 take-lay-requires : tie.Need-take-lay-requires
 take-lay-requires c κs = search needs
 
--- src/calls.rt:50:1
 same-length : tie.Need-same-length
 same-length c = search needs
 
--- src/calls.rt:50:1
 returns-3 : tie.Need-returns-3
 returns-3 c = lay-done _ _ (omega arith) (omega arith) (c .before .before .before .before .before .word-at .ensures) (c .before .before .before .before .word-at2 .ensures) (c .before .before .before .before .before .before .before .before .read-words .ensures .0) (c .before .before .before .before .before .before .before .before .read-words .ensures .2) (c .before .before .take-lay .ensures)
 

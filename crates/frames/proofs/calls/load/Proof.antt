@@ -4,40 +4,28 @@ use native.Mathlib.Omega.{arith}
 use borrow.Author.Needs.{needs}
 use Rattle.frames.proofs.calls.load.Statement.{statement}
 use Rattle.frames.proofs.calls.load.Tie as tie
-use Rattle.frames.proofs.calls.load.Reads as reads
-use Rattle.frames.proofs.calls.load.Lts as lts
-use Rattle.file.proofs.loading.take_load.Reads as take-load-reads
-use Rattle.frames.proofs.calls.word_at.Reads as word-at-reads
 
--- src/calls.rt:107:9
 returns : tie.Need-returns
 returns c = load-short _ _ (c .if1 .taken)
 
--- src/calls.rt:109:33
 word-at-requires : tie.Need-word-at-requires
 word-at-requires c κs = search needs
 
--- src/calls.rt:109:52
 sub-take-load : tie.Need-sub-take-load
 sub-take-load c = search needs
 
--- src/calls.rt:109:52
 part-take-load-start : tie.Need-part-take-load-start
 part-take-load-start c = search needs
 
--- src/calls.rt:109:52
 part-take-load-end : tie.Need-part-take-load-end
 part-take-load-end c = search needs
 
--- src/calls.rt:109:5
 take-load-requires : tie.Need-take-load-requires
 take-load-requires c κs = search needs
 
--- src/calls.rt:103:1
 same-length : tie.Need-same-length
 same-length c = search needs
 
--- src/calls.rt:103:1
 returns-2 : tie.Need-returns-2
 returns-2 c = load-done _ _ (omega arith) (c .before .before .before .before .word-at .ensures) (c .before .before .take-load .ensures)
 

@@ -4,40 +4,28 @@ use native.Mathlib.Omega.{arith}
 use borrow.Author.Needs.{needs}
 use Rattle.frames.proofs.calls.open_frame.Statement.{statement}
 use Rattle.frames.proofs.calls.open_frame.Tie as tie
-use Rattle.frames.proofs.calls.open_frame.Reads as reads
-use Rattle.frames.proofs.calls.open_frame.Lts as lts
-use Rattle.frames.proofs.calls.open_session.Reads as open-session-reads
-use Rattle.frames.proofs.calls.word_at.Reads as word-at-reads
 
--- src/calls.rt:152:9
 returns : tie.Need-returns
 returns c = open-wrong _ _ (c .before .before .before .pre .1) (c .before .before .before .pre .0) _ (c .if1 .taken)
 
--- src/calls.rt:160:9
 word-at-requires : tie.Need-word-at-requires
 word-at-requires c κs = search needs
 
--- src/calls.rt:161:9
 word-at-requires-2 : tie.Need-word-at-requires-2
 word-at-requires-2 c κs = search needs
 
--- src/calls.rt:162:9
 word-at-requires-3 : tie.Need-word-at-requires-3
 word-at-requires-3 c κs = search needs
 
--- src/calls.rt:163:9
 word-at-requires-4 : tie.Need-word-at-requires-4
 word-at-requires-4 c κs = search needs
 
--- src/calls.rt:157:5
 open-session-requires : tie.Need-open-session-requires
 open-session-requires c κs = search needs
 
--- src/calls.rt:147:1
 same-length : tie.Need-same-length
 same-length c = search needs
 
--- src/calls.rt:147:1
 returns-2 : tie.Need-returns-2
 returns-2 c = rw (open-right (c .before .before .before .before .before .before .before .before .before .before .before .args .bytes .now) (omega arith) _ (c .before .before .before .before .before .before .word-at .ensures) (c .before .before .before .before .before .word-at2 .ensures) (c .before .before .before .before .word-at3 .ensures) (c .before .before .before .word-at4 .ensures)) (c .before .before .open-session .ensures)
 

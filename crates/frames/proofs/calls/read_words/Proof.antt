@@ -7,9 +7,6 @@ use Rattle.frames.proofs.Words.{Reads, words-start, words-word, words-d
 use borrow.Author.Needs.{needs}
 use Rattle.frames.proofs.calls.read_words.Statement.{statement}
 use Rattle.frames.proofs.calls.read_words.Tie as tie
-use Rattle.frames.proofs.calls.read_words.Reads as reads
-use Rattle.frames.proofs.calls.read_words.Lts as lts
-use Rattle.frames.proofs.calls.word_at.Reads as word-at-reads
 
 abbrev Inv-loop : tie.InvT-loop
 Inv-loop bytes first words₀ count i₀ words i = (count ≡ (length bytes - 4 * first) / 4) × Reads bytes words₀ words first count i
@@ -17,55 +14,42 @@ Inv-loop bytes first words₀ count i₀ words i = (count ≡ (length bytes - 4 
 abbrev μ-loop : tie.MeasureT-loop
 μ-loop bytes first words₀ count i₀ words i = count - i
 
--- src/calls.rt:40:32
 mul-count : tie.Need-mul-count Inv-loop μ-loop
 mul-count c = search needs
 
--- src/calls.rt:40:18
 sub-count : tie.Need-sub-count Inv-loop μ-loop
 sub-count c = search needs
 
--- src/calls.rt:42:5
 loop-holds : tie.Need-loop-holds Inv-loop μ-loop
 loop-holds c = (refl, words-start _ _ _ _)
 
--- src/calls.rt:43:40
 add-word-at : tie.Need-add-word-at Inv-loop μ-loop
 add-word-at c = search needs
 
--- src/calls.rt:43:35
 mul-word-at : tie.Need-mul-word-at Inv-loop μ-loop
 mul-word-at c = search needs
 
--- src/calls.rt:43:20
 word-at-requires : tie.Need-word-at-requires Inv-loop μ-loop
 word-at-requires c κs = search needs
 
--- src/calls.rt:43:9
 mul-words : tie.Need-mul-words Inv-loop μ-loop
 mul-words c = search needs
 
--- src/calls.rt:43:9
 slice-write-words : tie.Need-slice-write-words Inv-loop μ-loop
 slice-write-words c = search needs
 
--- src/calls.rt:44:9
 add-i : tie.Need-add-i Inv-loop μ-loop
 add-i c = search needs
 
--- src/calls.rt:42:5
 loop-less : tie.Need-loop-less Inv-loop μ-loop
 loop-less c = search needs
 
--- src/calls.rt:42:5
 loop-again : tie.Need-loop-again Inv-loop μ-loop
 loop-again c = (refl, words-word (c .before .before .loop .inv .1) (omega arith) (c .word-at .ensures))
 
--- src/calls.rt:36:1
 same-length : tie.Need-same-length Inv-loop μ-loop
 same-length c = search needs
 
--- src/calls.rt:36:1
 returns : tie.Need-returns Inv-loop μ-loop
 returns c = (refl, omega (arith, c .before .loop .inv .1 .writes .long), words-done (c .before .loop .inv .1) (omega arith) (omega arith))
 

@@ -4,40 +4,28 @@ use native.Mathlib.Omega.{arith}
 use borrow.Author.Needs.{needs}
 use Rattle.frames.proofs.calls.split.Statement.{statement}
 use Rattle.frames.proofs.calls.split.Tie as tie
-use Rattle.frames.proofs.calls.split.Reads as reads
-use Rattle.frames.proofs.calls.split.Lts as lts
-use Rattle.beat.proofs.splitting.take_split.Reads as take-split-reads
-use Rattle.frames.proofs.calls.word_at.Reads as word-at-reads
 
--- src/calls.rt:70:9
 returns : tie.Need-returns
 returns c = split-wrong _ _ (c .if1 .taken)
 
--- src/calls.rt:74:9
 word-at-requires : tie.Need-word-at-requires
 word-at-requires c κs = search needs
 
--- src/calls.rt:75:9
 word-at-requires-2 : tie.Need-word-at-requires-2
 word-at-requires-2 c κs = search needs
 
--- src/calls.rt:76:9
 word-at-requires-3 : tie.Need-word-at-requires-3
 word-at-requires-3 c κs = search needs
 
--- src/calls.rt:77:9
 word-at-requires-4 : tie.Need-word-at-requires-4
 word-at-requires-4 c κs = search needs
 
--- src/calls.rt:72:5
 take-split-requires : tie.Need-take-split-requires
 take-split-requires c κs = search needs
 
--- src/calls.rt:66:1
 same-length : tie.Need-same-length
 same-length c = search needs
 
--- src/calls.rt:66:1
 returns-2 : tie.Need-returns-2
 returns-2 c = split-done _ _ (omega arith) (c .before .before .before .before .before .before .word-at .ensures) (c .before .before .before .before .before .word-at2 .ensures) (c .before .before .before .before .word-at3 .ensures) (c .before .before .before .word-at4 .ensures) (c .before .before .take-split .ensures)
 

@@ -4,28 +4,19 @@ use native.Mathlib.Omega.{arith}
 use borrow.Author.Needs.{needs}
 use Rattle.frames.proofs.calls.write.Statement.{statement}
 use Rattle.frames.proofs.calls.write.Tie as tie
-use Rattle.frames.proofs.calls.write.Reads as reads
-use Rattle.frames.proofs.calls.write.Lts as lts
-use Rattle.file.proofs.writing.take_write.Reads as take-write-reads
-use Rattle.frames.proofs.calls.word_at.Reads as word-at-reads
 
--- src/calls.rt:103:9
 returns : tie.Need-returns
 returns c = write-wrong _ _ (c .if1 .taken) _
 
--- src/calls.rt:109:47
 word-at-requires : tie.Need-word-at-requires
 word-at-requires c κs = search needs
 
--- src/calls.rt:109:9
 take-write-requires : tie.Need-take-write-requires
 take-write-requires c κs = search needs
 
--- src/calls.rt:98:1
 same-length : tie.Need-same-length
 same-length c = search needs
 
--- src/calls.rt:98:1
 returns-2 : tie.Need-returns-2
 returns-2 c = write-done _ _ (omega arith) (c .before .before .before .before .before .word-at .ensures) (c .before .before .before .before .before .before .before .before .before .before .args .output .now) (c .before .before .before .before .before .before .before .before .before .before .pre) (c .before .before .take-write .ensures .0) (c .before .before .take-write .ensures .1 .0) (c .before .before .take-write .ensures .1 .1)
 

@@ -4,30 +4,22 @@ use borrow.Author.Needs.{needs}
 use native.Mathlib.Omega.{arith}
 use Rattle.frames.proofs.digits.digit_value.Statement.{statement}
 use Rattle.frames.proofs.digits.digit_value.Tie as tie
-use Rattle.frames.proofs.digits.digit_value.Reads as reads
-use Rattle.frames.proofs.digits.digit_value.Lts as lts
 
--- src/digits.rt:14:9
 returns : tie.Need-returns
 returns c = value-below _ (omega arith)
 
--- src/digits.rt:17:9
 returns-2 : tie.Need-returns-2
 returns-2 c = value-figure _ (omega arith) (omega arith)
 
--- src/digits.rt:20:9
 returns-3 : tie.Need-returns-3
 returns-3 c = value-between _ (omega arith) (omega arith)
 
--- src/digits.rt:23:16
 sub-result : tie.Need-sub-result
 sub-result c = search needs
 
--- src/digits.rt:23:9
 returns-4 : tie.Need-returns-4
 returns-4 c = value-letter _ (omega arith) (omega arith)
 
--- src/digits.rt:10:1
 returns-5 : tie.Need-returns-5
 returns-5 c = value-above _ (omega arith)
 

@@ -6,9 +6,6 @@ use Rattle.frames.proofs.Values.{Puts, puts-start, puts-byte, puts-done
 use borrow.Author.Needs.{needs}
 use Rattle.frames.proofs.digits.put_digits.Statement.{statement}
 use Rattle.frames.proofs.digits.put_digits.Tie as tie
-use Rattle.frames.proofs.digits.put_digits.Reads as reads
-use Rattle.frames.proofs.digits.put_digits.Lts as lts
-use Rattle.frames.proofs.digits.put_byte.Reads as put-byte-reads
 
 abbrev Inv-loop : tie.InvT-loop
 Inv-loop out₀ at bytes i₀ to₀ out i to = Puts out₀ out bytes at to i
@@ -16,39 +13,30 @@ Inv-loop out₀ at bytes i₀ to₀ out i to = Puts out₀ out bytes at to i
 abbrev μ-loop : tie.MeasureT-loop
 μ-loop out₀ at bytes i₀ to₀ out i to = length bytes - i
 
--- src/digits.rt:83:5
 loop-holds : tie.Need-loop-holds Inv-loop μ-loop
 loop-holds c = puts-start _ _ _
 
--- src/digits.rt:84:27
 shared-slice-read-put-byte : tie.Need-shared-slice-read-put-byte Inv-loop μ-loop
 shared-slice-read-put-byte c = search needs
 
--- src/digits.rt:84:9
 put-byte-requires : tie.Need-put-byte-requires Inv-loop μ-loop
 put-byte-requires c κs = omega (arith, c .before .before .before .loop .inv .place)
 
--- src/digits.rt:85:9
 add-to : tie.Need-add-to Inv-loop μ-loop
 add-to c = search needs
 
--- src/digits.rt:86:9
 add-i : tie.Need-add-i Inv-loop μ-loop
 add-i c = search needs
 
--- src/digits.rt:83:5
 loop-less : tie.Need-loop-less Inv-loop μ-loop
 loop-less c = search needs
 
--- src/digits.rt:83:5
 loop-again : tie.Need-loop-again Inv-loop μ-loop
 loop-again c = puts-byte (c .before .before .before .before .before .before .loop .inv) (omega arith) (c .before .before .put-byte .ensures)
 
--- src/digits.rt:77:1
 same-length : tie.Need-same-length Inv-loop μ-loop
 same-length c = search needs
 
--- src/digits.rt:77:1
 returns : tie.Need-returns Inv-loop μ-loop
 returns c = puts-done (c .before .loop .inv) (c .loop-test .left)
 

@@ -6,27 +6,19 @@ use native.Mathlib.Omega.{arith}
 use borrow.Author.Needs.{needs}
 use Rattle.frames.proofs.input.end_line.Statement.{statement}
 use Rattle.frames.proofs.input.end_line.Tie as tie
-use Rattle.frames.proofs.input.end_line.Reads as reads
-use Rattle.frames.proofs.input.end_line.Lts as lts
-use Rattle.frames.proofs.answers.answer.Reads as answer-reads
 
--- src/input.rt:37:32
 slice-aggregate-answer : tie.Need-slice-aggregate-answer
 slice-aggregate-answer c = sym (length-take-le _ _ (omega arith))
 
--- src/input.rt:37:9
 answer-requires : tie.Need-answer-requires
 answer-requires c κs = search needs
 
--- src/input.rt:32:1
 same-length : tie.Need-same-length
 same-length c = search needs
 
--- src/input.rt:32:1
 same-length-2 : tie.Need-same-length-2
 same-length-2 c = search needs
 
--- src/input.rt:32:1
 returns : tie.Need-returns
 returns c = ended (c .before .before .before .before .before .before .before .before .before .before .before .pre .0) (c .before .before .before .before .answer .ensures) (omega arith)
 

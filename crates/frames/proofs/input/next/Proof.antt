@@ -4,40 +4,28 @@ use native.Mathlib.Omega.{arith}
 use borrow.Author.Needs.{needs}
 use Rattle.frames.proofs.input.next.Statement.{statement}
 use Rattle.frames.proofs.input.next.Tie as tie
-use Rattle.frames.proofs.input.next.Reads as reads
-use Rattle.frames.proofs.input.next.Lts as lts
-use Rattle.frames.proofs.input.end_line.Reads as end-line-reads
-use Rattle.frames.proofs.input.keep.Reads as keep-reads
 
--- src/input.rt:52:9
 end-line-requires : tie.Need-end-line-requires
 end-line-requires c κs = search needs
 
--- src/input.rt:52:9
 same-length : tie.Need-same-length
 same-length c = search needs
 
--- src/input.rt:52:9
 same-length-2 : tie.Need-same-length-2
 same-length-2 c = search needs
 
--- src/input.rt:52:9
 same-length-3 : tie.Need-same-length-3
 same-length-3 c = search needs
 
--- src/input.rt:52:9
 returns : tie.Need-returns
 returns c = rw (c .before .before .before .before .before .before .before .before .if1 .taken) (c .before .before .before .before .end-line .ensures)
 
--- src/input.rt:54:9
 keep-requires : tie.Need-keep-requires
 keep-requires c κs = search needs
 
--- src/input.rt:47:1
 same-length-4 : tie.Need-same-length-4
 same-length-4 c = search needs
 
--- src/input.rt:47:1
 returns-2 : tie.Need-returns-2
 returns-2 c = kept-one (c .before .before .before .before .before .before .before .before .pre .0) (c .before .before .before .before .if1 .left) (c .before .before .keep .ensures) (omega arith)
 

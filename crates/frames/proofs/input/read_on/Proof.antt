@@ -6,10 +6,6 @@ use native.Mathlib.Omega.{arith}
 use borrow.Author.Needs.{needs}
 use Rattle.frames.proofs.input.read_on.Statement.{statement}
 use Rattle.frames.proofs.input.read_on.Tie as tie
-use Rattle.frames.proofs.input.read_on.Reads as reads
-use Rattle.frames.proofs.input.read_on.Lts as lts
-use Rattle.frames.proofs.input.moved.Reads as moved-reads
-use Rattle.frames.proofs.input.next.Reads as next-reads
 
 abbrev Inv-loop : tie.InvT-loop
 Inv-loop block line₀ words₀ out₀ now₀ at₀ line words out now at = Goes block line₀ words₀ out₀ now₀ at line words out now
@@ -17,71 +13,54 @@ Inv-loop block line₀ words₀ out₀ now₀ at₀ line words out now at = Goes
 abbrev μ-loop : tie.MeasureT-loop
 μ-loop block line₀ words₀ out₀ now₀ at₀ line words out now at = length block - at
 
--- src/input.rt:88:5
 loop-holds : tie.Need-loop-holds Inv-loop μ-loop
 loop-holds c = goes-start _ _ (c .before .before .before .before .pre .0) (c .before .before .before .before .pre .1) (c .before .before .before .before .pre .2)
 
--- src/input.rt:89:12
 sub-if1 : tie.Need-sub-if1 Inv-loop μ-loop
 sub-if1 c = search needs
 
--- src/input.rt:90:13
 moved-requires : tie.Need-moved-requires Inv-loop μ-loop
 moved-requires c κs = search needs
 
--- src/input.rt:90:13
 same-length : tie.Need-same-length Inv-loop μ-loop
 same-length c = search needs
 
--- src/input.rt:90:13
 same-length-2 : tie.Need-same-length-2 Inv-loop μ-loop
 same-length-2 c = search needs
 
--- src/input.rt:90:13
 same-length-3 : tie.Need-same-length-3 Inv-loop μ-loop
 same-length-3 c = search needs
 
--- src/input.rt:90:13
 returns : tie.Need-returns Inv-loop μ-loop
 returns c = goes-stop (c .before .before .before .before .loop .inv) (c .moved .ensures) (λ h. omega arith)
 
--- src/input.rt:92:20
 shared-slice-read-next : tie.Need-shared-slice-read-next Inv-loop μ-loop
 shared-slice-read-next c = search needs
 
--- src/input.rt:92:9
 next-requires : tie.Need-next-requires Inv-loop μ-loop
 next-requires c κs = (c .before .before .before .before .before .before .before .loop .inv .takes .holds, omega arith)
 
--- src/input.rt:93:9
 add-at : tie.Need-add-at Inv-loop μ-loop
 add-at c = search needs
 
--- src/input.rt:88:5
 loop-less : tie.Need-loop-less Inv-loop μ-loop
 loop-less c = search needs
 
--- src/input.rt:88:5
 loop-again : tie.Need-loop-again Inv-loop μ-loop
 loop-again c = goes-on (c .before .before .before .before .before .before .before .before .before .before .before .before .before .before .loop .inv) (c .before .before .before .before .before .before .before .before .before .before .before .before .before .loop-test .taken) (omega arith) (omega arith) (c .before .before .before .before .before .before .next .ensures)
 
--- src/input.rt:95:5
 moved-requires-2 : tie.Need-moved-requires-2 Inv-loop μ-loop
 moved-requires-2 c κs = search needs
 
--- src/input.rt:76:1
 same-length-4 : tie.Need-same-length-4 Inv-loop μ-loop
 same-length-4 c = search needs
 
--- src/input.rt:76:1
 same-length-5 : tie.Need-same-length-5 Inv-loop μ-loop
 same-length-5 c = search needs
 
--- src/input.rt:76:1
 same-length-6 : tie.Need-same-length-6 Inv-loop μ-loop
 same-length-6 c = search needs
 
--- src/input.rt:76:1
 returns-2 : tie.Need-returns-2 Inv-loop μ-loop
 returns-2 c = goes-stop (c .before .before .loop .inv) (c .moved2 .ensures) (λ h. omega arith)
 

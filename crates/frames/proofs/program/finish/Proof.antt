@@ -4,41 +4,28 @@ use native.Mathlib.Omega.{arith}
 use borrow.Author.Needs.{needs}
 use Rattle.frames.proofs.program.finish.Statement.{statement}
 use Rattle.frames.proofs.program.finish.Tie as tie
-use Rattle.frames.proofs.program.finish.Reads as reads
-use Rattle.frames.proofs.program.finish.Lts as lts
-use Rattle.frames.proofs.program.emptied.Reads as emptied-reads
-use Rattle.frames.proofs.program.flush.Reads as flush-reads
-use Rattle.frames.proofs.program.last_line.Reads as last-line-reads
 
--- src/program.rt:122:5
 flush-requires : tie.Need-flush-requires
 flush-requires c κs = search needs
 
--- src/program.rt:123:43
 emptied-requires : tie.Need-emptied-requires
 emptied-requires c κs = search needs
 
--- src/program.rt:123:9
 last-line-requires : tie.Need-last-line-requires
 last-line-requires c κs = (holds-moved (c .emptied .ensures) (c .before .before .before .before .before .before .before .before .pre .0), omega (arith, moved-end (c .emptied .ensures)))
 
--- src/program.rt:124:5
 flush-requires-2 : tie.Need-flush-requires-2
 flush-requires-2 c κs = omega (arith, c .before .before .before .before .before .last-line .ensures .few, moved-end (c .before .before .before .before .before .before .emptied .ensures))
 
--- src/program.rt:124:5
 add-result : tie.Need-add-result
 add-result c = omega (arith, c .before .before .before .before .before .before .before .before .before .before .flush .ensures, c .flush2 .ensures, c .before .before .before .before .before .before .last-line .ensures .few, moved-end (c .before .before .before .before .before .before .before .emptied .ensures))
 
--- src/program.rt:118:1
 same-length : tie.Need-same-length
 same-length c = search needs
 
--- src/program.rt:118:1
 same-length-2 : tie.Need-same-length-2
 same-length-2 c = search needs
 
--- src/program.rt:118:1
 returns : tie.Need-returns
 returns c = rw (c .before .before .before .before .before .before .before .before .before .before .flush .ensures, c .flush2 .ensures) (last-whole (c .before .before .before .before .before .before .before .emptied .ensures) (c .before .before .before .before .before .before .last-line .ensures) (c .before .before .before .before .before .before .before .before .before .before .before .before .before .before .before .pre .2))
 

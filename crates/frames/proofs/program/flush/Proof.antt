@@ -5,19 +5,13 @@ use native.Mathlib.Omega.{arith}
 use borrow.Author.Needs.{needs}
 use Rattle.frames.proofs.program.flush.Statement.{statement}
 use Rattle.frames.proofs.program.flush.Tie as tie
-use Rattle.frames.proofs.program.flush.Reads as reads
-use Rattle.frames.proofs.program.flush.Lts as lts
-use Rattle.io.proofs.write_all.Reads as write-all-reads
 
--- src/program.rt:33:34
 slice-aggregate-write-all : tie.Need-slice-aggregate-write-all
 slice-aggregate-write-all c = sym (length-take-le _ _ (omega arith))
 
--- src/program.rt:33:5
 write-all-requires : tie.Need-write-all-requires
 write-all-requires c κs = search needs
 
--- src/program.rt:29:1
 returns : tie.Need-returns
 returns c = search needs
 

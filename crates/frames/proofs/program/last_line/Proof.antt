@@ -3,27 +3,19 @@ use Rattle.frames.proofs.Programs.{last-none, last-some}
 use borrow.Author.Needs.{needs}
 use Rattle.frames.proofs.program.last_line.Statement.{statement}
 use Rattle.frames.proofs.program.last_line.Tie as tie
-use Rattle.frames.proofs.program.last_line.Reads as reads
-use Rattle.frames.proofs.program.last_line.Lts as lts
-use Rattle.frames.proofs.input.end_line.Reads as end-line-reads
 
--- src/program.rt:111:9
 returns : tie.Need-returns
 returns c = last-none (c .before .before .before .before .before .args .line .now) (c .before .before .before .before .before .args .words .now) (c .before .before .before .before .before .args .out .now) (c .before .before .before .before .before .args .p) (c .if1 .taken)
 
--- src/program.rt:113:9
 end-line-requires : tie.Need-end-line-requires
 end-line-requires c κs = search needs
 
--- src/program.rt:106:1
 same-length : tie.Need-same-length
 same-length c = search needs
 
--- src/program.rt:106:1
 same-length-2 : tie.Need-same-length-2
 same-length-2 c = search needs
 
--- src/program.rt:106:1
 returns-2 : tie.Need-returns-2
 returns-2 c = last-some (c .before .before .before .before .before .before .before .before .before .before .before .before .pre .0) (c .before .before .before .before .before .before .before .if1 .left) (c .before .before .before .before .end-line .ensures)
 

@@ -8,12 +8,6 @@ use native.Mathlib.Omega.{arith}
 use borrow.Author.Needs.{needs}
 use Rattle.frames.proofs.program.read_all.Statement.{statement}
 use Rattle.frames.proofs.program.read_all.Tie as tie
-use Rattle.frames.proofs.program.read_all.Reads as reads
-use Rattle.frames.proofs.program.read_all.Lts as lts
-use Rattle.frames.proofs.program.read_block.Reads as read-block-reads
-use Rattle.io.proofs.count.Reads as count-reads
-use Rattle.io.proofs.large_buffer.Reads as large-buffer-reads
-use Rattle.libc.proofs.read.Reads as read-reads
 
 abbrev Inv-loop : tie.InvT-loop
 Inv-loop line₀ words₀ out₀ block₀ now₀ turns₀ line words out block now turns = (65536 ≡ length block) × ReadSome line₀ words₀ out₀ now₀ line words out now × (now₀ .end ≤ length out₀) × (length out ≡ 65536)
@@ -21,83 +15,63 @@ Inv-loop line₀ words₀ out₀ block₀ now₀ turns₀ line words out block n
 abbrev μ-loop : tie.MeasureT-loop
 μ-loop line₀ words₀ out₀ block₀ now₀ turns₀ line words out block now turns = turns
 
--- src/program.rt:63:21
 large-buffer-requires : tie.Need-large-buffer-requires Inv-loop μ-loop
 large-buffer-requires c κs = search needs
 
--- src/program.rt:66:5
 loop-holds : tie.Need-loop-holds Inv-loop μ-loop
 loop-holds c = (omega (arith, c .large-buffer .ensures), some-none (c .before .before .before .before .pre .0) (c .before .before .before .before .pre .1), c .before .before .before .before .pre .1, c .before .before .before .before .pre .2)
 
--- src/program.rt:67:44
 slice-aggregate-read : tie.Need-slice-aggregate-read Inv-loop μ-loop
 slice-aggregate-read c = search needs
 
--- src/program.rt:67:13
 read-requires : tie.Need-read-requires Inv-loop μ-loop
 read-requires c κs = search needs
 
--- src/program.rt:69:13
 same-length : tie.Need-same-length Inv-loop μ-loop
 same-length c = search needs
 
--- src/program.rt:69:13
 same-length-2 : tie.Need-same-length-2 Inv-loop μ-loop
 same-length-2 c = search needs
 
--- src/program.rt:69:13
 same-length-3 : tie.Need-same-length-3 Inv-loop μ-loop
 same-length-3 c = search needs
 
--- src/program.rt:69:13
 returns : tie.Need-returns Inv-loop μ-loop
 returns c = c .before .before .before .before .before .loop .inv .1
 
--- src/program.rt:71:32
 slice-aggregate-count : tie.Need-slice-aggregate-count Inv-loop μ-loop
 slice-aggregate-count c = search needs
 
--- src/program.rt:71:13
 count-requires : tie.Need-count-requires Inv-loop μ-loop
 count-requires c κs = search needs
 
--- src/program.rt:72:26
 array-share-prefix-block : tie.Need-array-share-prefix-block Inv-loop μ-loop
 array-share-prefix-block c = search needs
 
--- src/program.rt:72:26
 slice-aggregate-read-block : tie.Need-slice-aggregate-read-block Inv-loop μ-loop
 slice-aggregate-read-block c = search needs
 
--- src/program.rt:72:9
 read-block-requires : tie.Need-read-block-requires Inv-loop μ-loop
 read-block-requires c κs = (c .before .before .before .before .before .before .before .before .before .before .before .loop .inv .1 .whole .holds, c .before .before .before .before .before .before .before .before .before .before .before .loop .inv .1 .whole .room, c .before .before .before .before .before .before .before .before .before .before .before .loop .inv .3, omega (arith, c .before .before .before .before .count .ensures, c .before .before .before .before .before .before .before .before .before .before .before .loop .inv .0))
 
--- src/program.rt:73:9
 sub-turns : tie.Need-sub-turns Inv-loop μ-loop
 sub-turns c = search needs
 
--- src/program.rt:66:5
 loop-less : tie.Need-loop-less Inv-loop μ-loop
 loop-less c = search needs
 
--- src/program.rt:66:5
 loop-again : tie.Need-loop-again Inv-loop μ-loop
 loop-again c = (omega (arith, c .before .before .before .before .before .before .before .before .before .before .before .before .before .before .before .before .before .before .before .loop .inv .0), some-more (c .before .before .before .before .before .before .before .before .before .before .before .before .before .before .before .before .before .before .before .loop .inv .2) (c .before .before .before .before .before .before .before .before .before .before .before .before .before .before .before .before .before .before .before .loop .inv .1) (c .before .before .before .before .before .before .before .read-block .ensures), c .before .before .before .before .before .before .before .before .before .before .before .before .before .before .before .before .before .before .before .loop .inv .2, omega (arith, c .before .before .before .before .before .before .before .before .before .before .before .before .before .before .before .before .before .before .before .loop .inv .3))
 
--- src/program.rt:59:1
 same-length-4 : tie.Need-same-length-4 Inv-loop μ-loop
 same-length-4 c = search needs
 
--- src/program.rt:59:1
 same-length-5 : tie.Need-same-length-5 Inv-loop μ-loop
 same-length-5 c = search needs
 
--- src/program.rt:59:1
 same-length-6 : tie.Need-same-length-6 Inv-loop μ-loop
 same-length-6 c = search needs
 
--- src/program.rt:59:1
 returns-2 : tie.Need-returns-2 Inv-loop μ-loop
 returns-2 c = c .before .loop .inv .1
 

@@ -3,44 +3,31 @@ use native.Mathlib.Omega.{arith}
 use borrow.Author.Needs.{needs}
 use Rattle.frames.proofs.program.run.Statement.{statement}
 use Rattle.frames.proofs.program.run.Tie as tie
-use Rattle.frames.proofs.program.run.Reads as reads
-use Rattle.frames.proofs.program.run.Lts as lts
-use Rattle.frames.proofs.program.finish.Reads as finish-reads
-use Rattle.frames.proofs.program.read_all.Reads as read-all-reads
 
--- src/program.rt:138:24
 slice-aggregate-read-all : tie.Need-slice-aggregate-read-all
 slice-aggregate-read-all c = search needs
 
--- src/program.rt:138:35
 slice-aggregate-read-all-2 : tie.Need-slice-aggregate-read-all-2
 slice-aggregate-read-all-2 c = search needs
 
--- src/program.rt:138:47
 slice-aggregate-read-all-3 : tie.Need-slice-aggregate-read-all-3
 slice-aggregate-read-all-3 c = search needs
 
--- src/program.rt:138:9
 read-all-requires : tie.Need-read-all-requires
 read-all-requires c κs = search needs
 
--- src/program.rt:139:12
 slice-aggregate-finish : tie.Need-slice-aggregate-finish
 slice-aggregate-finish c = search needs
 
--- src/program.rt:139:19
 slice-aggregate-finish-2 : tie.Need-slice-aggregate-finish-2
 slice-aggregate-finish-2 c = search needs
 
--- src/program.rt:139:31
 slice-aggregate-finish-3 : tie.Need-slice-aggregate-finish-3
 slice-aggregate-finish-3 c = search needs
 
--- src/program.rt:139:5
 finish-requires : tie.Need-finish-requires
 finish-requires c κs = (c .before .before .before .before .before .before .read-all .ensures .whole .holds, c .before .before .before .before .before .before .read-all .ensures .whole .room, omega arith)
 
--- src/program.rt:128:1
 returns : tie.Need-returns
 returns c = search needs
 

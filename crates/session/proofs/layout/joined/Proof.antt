@@ -4,8 +4,6 @@ use Rattle.session.proofs.Layouts.{Joining, joining-start, joining-more
 use borrow.Author.Needs.{needs}
 use Rattle.session.proofs.layout.joined.Statement.{statement}
 use Rattle.session.proofs.layout.joined.Tie as tie
-use Rattle.session.proofs.layout.joined.Reads as reads
-use Rattle.session.proofs.layout.joined.Lts as lts
 
 abbrev Inv-loop : tie.InvT-loop
 Inv-loop part from to all₀ at₀ all at = Joining part from to all at
@@ -13,31 +11,24 @@ Inv-loop part from to all₀ at₀ all at = Joining part from to all at
 abbrev μ-loop : tie.MeasureT-loop
 μ-loop part from to all₀ at₀ all at = to - at
 
--- src/layout.rt:25:5
 loop-holds : tie.Need-loop-holds Inv-loop μ-loop
 loop-holds c = joining-start _ _ _ (c .pre .0)
 
--- src/layout.rt:26:21
 mul-all : tie.Need-mul-all Inv-loop μ-loop
 mul-all c = search needs
 
--- src/layout.rt:26:21
 shared-slice-read-all : tie.Need-shared-slice-read-all Inv-loop μ-loop
 shared-slice-read-all c = search needs
 
--- src/layout.rt:27:9
 add-at : tie.Need-add-at Inv-loop μ-loop
 add-at c = search needs
 
--- src/layout.rt:25:5
 loop-less : tie.Need-loop-less Inv-loop μ-loop
 loop-less c = search needs
 
--- src/layout.rt:25:5
 loop-again : tie.Need-loop-again Inv-loop μ-loop
 loop-again c = joining-more _ _ _ _ _ (c .before .before .loop .inv) (c .before .loop-test .taken) (c .before .before .before .pre .1)
 
--- src/layout.rt:19:1
 returns : tie.Need-returns Inv-loop μ-loop
 returns c = joining-done _ _ _ _ _ (c .before .loop .inv) (c .loop-test .left)
 

@@ -9,9 +9,6 @@ use lib.Dec.{eqb}
 use borrow.Author.Needs.{needs}
 use Rattle.session.proofs.layout.zeros_from.Statement.{statement}
 use Rattle.session.proofs.layout.zeros_from.Tie as tie
-use Rattle.session.proofs.layout.zeros_from.Reads as reads
-use Rattle.session.proofs.layout.zeros_from.Lts as lts
-use Rattle.session.proofs.layout.joined.Reads as joined-reads
 
 abbrev Inv-loop : tie.InvT-loop
 Inv-loop part from at₀ at = (at ≤ length part) × (every (eqb 0) (drop at part) ≡ every (eqb 0) (drop from part))
@@ -19,43 +16,33 @@ Inv-loop part from at₀ at = (at ≤ length part) × (every (eqb 0) (drop at pa
 abbrev μ-loop : tie.MeasureT-loop
 μ-loop part from at₀ at = length part - at
 
--- src/layout.rt:38:5
 loop-holds : tie.Need-loop-holds Inv-loop μ-loop
 loop-holds c = (c .before .pre, refl)
 
--- src/layout.rt:38:17
 sub-loop : tie.Need-sub-loop Inv-loop μ-loop
 sub-loop c = search needs
 
--- src/layout.rt:39:29
 add-joined : tie.Need-add-joined Inv-loop μ-loop
 add-joined c = search needs
 
--- src/layout.rt:39:12
 joined-requires : tie.Need-joined-requires Inv-loop μ-loop
 joined-requires c κs = search needs
 
--- src/layout.rt:40:13
 returns : tie.Need-returns Inv-loop μ-loop
 returns c = sym (block-not (c .before .before .before .before .before .args .part .now) (c .before .before .before .loop .at) (c .before .joined .ensures) (c .if1 .taken)) ∙ c .before .before .before .loop .inv .1
 
--- src/layout.rt:42:9
 add-at : tie.Need-add-at Inv-loop μ-loop
 add-at c = search needs
 
--- src/layout.rt:38:5
 loop-less : tie.Need-loop-less Inv-loop μ-loop
 loop-less c = search needs
 
--- src/layout.rt:38:5
 loop-again : tie.Need-loop-again Inv-loop μ-loop
 loop-again c = (omega (arith, c .before .before .loop-test .taken, c .before .before .before .loop .inv .0), block-past (c .before .before .before .before .before .args .part .now) (c .before .before .before .loop .at) (c .before .joined .ensures) (c .if1 .left) ∙ c .before .before .before .loop .inv .1)
 
--- src/layout.rt:44:5
 joined-requires-2 : tie.Need-joined-requires-2 Inv-loop μ-loop
 joined-requires-2 c κs = search needs
 
--- src/layout.rt:33:1
 returns-2 : tie.Need-returns-2 Inv-loop μ-loop
 returns-2 c = c .joined2 .ensures ∙ rest-is (c .before .before .before .before .args .part .now) (c .before .before .loop .at) ∙ c .before .before .loop .inv .1
 

@@ -5,27 +5,19 @@ use Rattle.words.specs.Splice.{splice-append}
 use borrow.Author.Needs.{needs}
 use Rattle.track.proofs.bytes.put_four.Statement.{statement}
 use Rattle.track.proofs.bytes.put_four.Tie as tie
-use Rattle.track.proofs.bytes.put_four.Reads as reads
-use Rattle.track.proofs.bytes.put_four.Lts as lts
-use Rattle.track.proofs.bytes.put_two.Reads as put-two-reads
 
--- src/bytes.rt:31:5
 put-two-requires : tie.Need-put-two-requires
 put-two-requires c κs = search needs
 
--- src/bytes.rt:32:18
 add-put-two : tie.Need-add-put-two
 add-put-two c = search needs
 
--- src/bytes.rt:32:5
 put-two-requires-2 : tie.Need-put-two-requires-2
 put-two-requires-2 c κs = search needs
 
--- src/bytes.rt:27:1
 same-length : tie.Need-same-length
 same-length c = search needs
 
--- src/bytes.rt:27:1
 returns : tie.Need-returns
 returns c = c .before .before .put-two2 .ensures ∙ rw (c .before .before .before .before .before .before .put-two .ensures) (sym (splice-append _ _ (_ ∷ _ ∷ []) _))
 

@@ -6,26 +6,19 @@ use Rattle.words.specs.Splice.{splice}
 use borrow.Author.Needs.{needs}
 use Rattle.track.proofs.bytes.put_two.Statement.{statement}
 use Rattle.track.proofs.bytes.put_two.Tie as tie
-use Rattle.track.proofs.bytes.put_two.Reads as reads
-use Rattle.track.proofs.bytes.put_two.Lts as lts
 
--- src/bytes.rt:13:5
 slice-write-out : tie.Need-slice-write-out
 slice-write-out c = search needs
 
--- src/bytes.rt:14:9
 add-out : tie.Need-add-out
 add-out c = search needs
 
--- src/bytes.rt:14:5
 slice-write-out-2 : tie.Need-slice-write-out-2
 slice-write-out-2 c = simp length-set (omega arith)
 
--- src/bytes.rt:9:1
 same-length : tie.Need-same-length
 same-length c = search needs
 
--- src/bytes.rt:9:1
 returns : tie.Need-returns
 unfolding splice
 returns c = simp unary-clauses

@@ -5,38 +5,28 @@ use native.Mathlib.Omega.{arith}
 use borrow.Author.Needs.{needs}
 use Rattle.track.proofs.bytes.word16.Statement.{statement}
 use Rattle.track.proofs.bytes.word16.Tie as tie
-use Rattle.track.proofs.bytes.word16.Reads as reads
-use Rattle.track.proofs.bytes.word16.Lts as lts
 
--- src/chunks.rt:28:5
 shared-slice-read-result : tie.Need-shared-slice-read-result
 shared-slice-read-result c = search needs
 
--- src/chunks.rt:28:5
 cast-result : tie.Need-cast-result
 cast-result c = omega (arith, c .shared-slice-known .given (c .before .args .at))
 
--- src/chunks.rt:28:5
 mul-result : tie.Need-mul-result
 mul-result c = omega (arith, c .shared-slice-known .given (c .before .args .at))
 
--- src/chunks.rt:28:28
 add-result : tie.Need-add-result
 add-result c = search needs
 
--- src/chunks.rt:28:26
 shared-slice-read-result-2 : tie.Need-shared-slice-read-result-2
 shared-slice-read-result-2 c = search needs
 
--- src/chunks.rt:28:26
 cast-result-2 : tie.Need-cast-result-2
 cast-result-2 c = omega (arith, c .shared-slice-known2 .given (c .before .before .args .at + 1))
 
--- src/chunks.rt:28:5
 add-result-2 : tie.Need-add-result-2
 add-result-2 c = omega (arith, c .before .shared-slice-known .given (c .before .before .args .at), c .shared-slice-known2 .given (c .before .before .args .at + 1))
 
--- src/chunks.rt:24:1
 returns : tie.Need-returns
 returns c = (refl, omega (arith, c .before .shared-slice-known .given (c .before .before .args .at), c .shared-slice-known2 .given (c .before .before .args .at + 1)))
 

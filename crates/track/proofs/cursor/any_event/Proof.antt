@@ -7,36 +7,25 @@ use Rattle.track.proofs.Parts.{event-none, event-behind}
 use borrow.Author.Needs.{needs}
 use Rattle.track.proofs.cursor.any_event.Statement.{statement}
 use Rattle.track.proofs.cursor.any_event.Tie as tie
-use Rattle.track.proofs.cursor.any_event.Reads as reads
-use Rattle.track.proofs.cursor.any_event.Lts as lts
-use Rattle.track.proofs.cursor.behind_time.Reads as behind-time-reads
-use Rattle.track.proofs.quantities.quantity_at.Reads as quantity-at-reads
 
--- src/cursor.rt:212:15
 quantity-at-requires : tie.Need-quantity-at-requires
 quantity-at-requires c κs = search needs
 
--- src/cursor.rt:213:34
 enum-told : tie.Need-enum-told
 enum-told c = search needs
 
--- src/cursor.rt:214:30
 enum-known-d : tie.Need-enum-known-d
 enum-known-d c = search needs
 
--- src/cursor.rt:214:54
 add-behind-time : tie.Need-add-behind-time
 add-behind-time c = omega (arith, c .before .before .before .before .before .pre, quantity-small _ _ _ _ (sym (c .before .before .before .quantity-at .ensures) ∙ ap quantityOf (c .before .d .given .1)) (λ i. omega (arith, c .before .before .before .before .shared-slice-known .given i)))
 
--- src/cursor.rt:214:39
 behind-time-requires : tie.Need-behind-time-requires
 behind-time-requires c κs = search needs
 
--- src/cursor.rt:206:5
 returns : tie.Need-returns
 returns c = event-none _ _ (sym (c .before .before .quantity-at .ensures) ∙ ap quantityOf (c .enum-told .given .1))
 
--- src/cursor.rt:206:5
 returns-2 : tie.Need-returns-2
 returns-2 c = c .behind-time .ensures ∙ event-behind _ _ _ _ (sym (c .before .before .before .before .quantity-at .ensures) ∙ ap quantityOf (c .before .before .d .given .1))
 

@@ -4,40 +4,28 @@ use Rattle.track.proofs.Parts.{behind-cut, behind-own, behind-bare, beh
 use borrow.Author.Needs.{needs}
 use Rattle.track.proofs.cursor.behind_time.Statement.{statement}
 use Rattle.track.proofs.cursor.behind_time.Tie as tie
-use Rattle.track.proofs.cursor.behind_time.Reads as reads
-use Rattle.track.proofs.cursor.behind_time.Lts as lts
-use Rattle.track.proofs.cursor.channel_at.Reads as channel-at-reads
-use Rattle.track.proofs.cursor.own_status.Reads as own-status-reads
 
--- src/cursor.rt:192:9
 returns : tie.Need-returns
 returns c = behind-cut _ _ _ _ (c .if1 .taken)
 
--- src/cursor.rt:194:13
 shared-slice-read-b : tie.Need-shared-slice-read-b
 shared-slice-read-b c = search needs
 
--- src/cursor.rt:196:39
 add-own-status : tie.Need-add-own-status
 add-own-status c = search needs
 
--- src/cursor.rt:196:9
 own-status-requires : tie.Need-own-status-requires
 own-status-requires c κs = search needs
 
--- src/cursor.rt:196:9
 returns-2 : tie.Need-returns-2
 returns-2 c = c .own-status .ensures ∙ behind-own _ _ _ _ (c .before .before .before .if1 .left) (c .before .if2 .taken)
 
--- src/cursor.rt:199:9
 returns-3 : tie.Need-returns-3
 returns-3 c = behind-bare _ _ _ _ (c .before .before .before .if1 .left) (c .before .if2 .left) (c .if3 .taken)
 
--- src/cursor.rt:201:5
 channel-at-requires : tie.Need-channel-at-requires
 channel-at-requires c κs = search needs
 
--- src/cursor.rt:188:1
 returns-4 : tie.Need-returns-4
 returns-4 c = c .channel-at .ensures ∙ behind-running _ _ _ _ (c .before .before .before .before .if1 .left) (c .before .before .if2 .left) (c .before .if3 .left)
 

@@ -4,39 +4,28 @@ use Rattle.track.proofs.Parts.{data-cut, data-high, data-low, channel-n
 use borrow.Author.Needs.{needs}
 use Rattle.track.proofs.cursor.channel_at.Statement.{statement}
 use Rattle.track.proofs.cursor.channel_at.Tie as tie
-use Rattle.track.proofs.cursor.channel_at.Reads as reads
-use Rattle.track.proofs.cursor.channel_at.Lts as lts
-use Rattle.track.proofs.cursor.second_data.Reads as second-data-reads
 
--- src/cursor.rt:90:9
 returns : tie.Need-returns
 returns c = channel-none _ _ _ _ (data-cut _ _ (c .if1 .taken))
 
--- src/cursor.rt:92:15
 shared-slice-read-key : tie.Need-shared-slice-read-key
 shared-slice-read-key c = search needs
 
--- src/cursor.rt:94:9
 returns-2 : tie.Need-returns-2
 returns-2 c = channel-none _ _ _ _ (data-high _ _ (c .before .before .if1 .left) (c .if2 .taken))
 
--- src/cursor.rt:97:50
 add-second-data : tie.Need-add-second-data
 add-second-data c = search needs
 
--- src/cursor.rt:97:9
 second-data-requires : tie.Need-second-data-requires
 second-data-requires c κs = search needs
 
--- src/cursor.rt:97:9
 returns-3 : tie.Need-returns-3
 returns-3 c = c .second-data .ensures ∙ channel-two _ _ _ _ (data-low _ _ (c .before .before .before .before .if1 .left) (c .before .before .if2 .left)) (c .before .if3 .taken)
 
--- src/cursor.rt:100:13
 add-t7 : tie.Need-add-t7
 add-t7 c = search needs
 
--- src/cursor.rt:86:1
 returns-4 : tie.Need-returns-4
 returns-4 c = channel-one _ _ _ _ (data-low _ _ (c .before .before .before .if1 .left) (c .before .if2 .left)) (c .if3 .left)
 

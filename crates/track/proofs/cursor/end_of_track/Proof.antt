@@ -2,18 +2,13 @@
 use Rattle.track.proofs.Parts.{end-there, end-early, end-full}
 use Rattle.track.proofs.cursor.end_of_track.Statement.{statement}
 use Rattle.track.proofs.cursor.end_of_track.Tie as tie
-use Rattle.track.proofs.cursor.end_of_track.Reads as reads
-use Rattle.track.proofs.cursor.end_of_track.Lts as lts
 
--- src/cursor.rt:130:13
 returns : tie.Need-returns
 returns c = end-there _ _ _ _ (c .before .if1 .taken) (c .if2 .taken)
 
--- src/cursor.rt:125:1
 returns-2 : tie.Need-returns-2
 returns-2 c = end-early _ _ _ _ (c .before .if1 .taken) (c .if2 .left)
 
--- src/cursor.rt:125:1
 returns-3 : tie.Need-returns-3
 returns-3 c = end-full _ _ _ _ (c .if1 .left)
 

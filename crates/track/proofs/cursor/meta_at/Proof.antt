@@ -7,57 +7,40 @@ use Rattle.track.proofs.Parts.{data-cut, data-high, data-low, meta-none
 use borrow.Author.Needs.{needs}
 use Rattle.track.proofs.cursor.meta_at.Statement.{statement}
 use Rattle.track.proofs.cursor.meta_at.Tie as tie
-use Rattle.track.proofs.cursor.meta_at.Reads as reads
-use Rattle.track.proofs.cursor.meta_at.Lts as lts
-use Rattle.track.proofs.cursor.end_of_track.Reads as end-of-track-reads
-use Rattle.track.proofs.cursor.read_over.Reads as read-over-reads
-use Rattle.track.proofs.quantities.quantity_at.Reads as quantity-at-reads
 
--- src/cursor.rt:141:9
 returns : tie.Need-returns
 returns c = meta-none _ _ _ (data-cut _ _ (c .if1 .taken))
 
--- src/cursor.rt:143:16
 shared-slice-read-kind : tie.Need-shared-slice-read-kind
 shared-slice-read-kind c = search needs
 
--- src/cursor.rt:145:9
 returns-2 : tie.Need-returns-2
 returns-2 c = meta-none _ _ _ (data-high _ _ (c .before .before .if1 .left) (omega (arith, c .if2 .taken)))
 
--- src/cursor.rt:147:38
 add-quantity-at : tie.Need-add-quantity-at
 add-quantity-at c = search needs
 
--- src/cursor.rt:147:11
 quantity-at-requires : tie.Need-quantity-at-requires
 quantity-at-requires c κs = search needs
 
--- src/cursor.rt:148:30
 enum-told : tie.Need-enum-told
 enum-told c = search needs
 
--- src/cursor.rt:149:26
 enum-known-n : tie.Need-enum-known-n
 enum-known-n c = search needs
 
--- src/cursor.rt:151:17
 end-of-track-requires : tie.Need-end-of-track-requires
 end-of-track-requires c κs = search needs
 
--- src/cursor.rt:151:17
 returns-3 : tie.Need-returns-3
 returns-3 c = c .end-of-track .ensures ∙ meta-end _ _ _ (data-low _ _ (c .before .before .before .before .before .before .before .before .if1 .left) (omega (arith, c .before .before .before .before .before .before .if2 .left))) _ _ (sym (c .before .before .before .before .before .quantity-at .ensures) ∙ ap quantityOf (c .before .before .before .n .given .1)) (c .before .if3 .taken)
 
--- src/cursor.rt:153:13
 read-over-requires : tie.Need-read-over-requires
 read-over-requires c κs = quantity-behind _ _ _ _ (sym (c .before .before .before .before .quantity-at .ensures) ∙ ap quantityOf (c .before .before .n .given .1))
 
--- src/cursor.rt:137:1
 returns-4 : tie.Need-returns-4
 returns-4 c = meta-bare _ _ _ (data-low _ _ (c .before .before .before .before .before .if1 .left) (omega (arith, c .before .before .before .if2 .left))) (sym (c .before .before .quantity-at .ensures) ∙ ap quantityOf (c .enum-told .given .1))
 
--- src/cursor.rt:137:1
 returns-5 : tie.Need-returns-5
 returns-5 c = c .read-over .ensures ∙ meta-over _ _ _ (data-low _ _ (c .before .before .before .before .before .before .before .before .if1 .left) (omega (arith, c .before .before .before .before .before .before .if2 .left))) _ _ (sym (c .before .before .before .before .before .quantity-at .ensures) ∙ ap quantityOf (c .before .before .before .n .given .1)) (c .before .if3 .left)
 

@@ -4,45 +4,31 @@ use Rattle.track.proofs.Parts.{own-channel, own-meta, own-f0, own-f7, o
 use borrow.Author.Needs.{needs}
 use Rattle.track.proofs.cursor.own_status.Statement.{statement}
 use Rattle.track.proofs.cursor.own_status.Tie as tie
-use Rattle.track.proofs.cursor.own_status.Reads as reads
-use Rattle.track.proofs.cursor.own_status.Lts as lts
-use Rattle.track.proofs.cursor.channel_at.Reads as channel-at-reads
-use Rattle.track.proofs.cursor.meta_at.Reads as meta-at-reads
-use Rattle.track.proofs.cursor.sysex_at.Reads as sysex-at-reads
 
--- src/cursor.rt:173:9
 channel-at-requires : tie.Need-channel-at-requires
 channel-at-requires c κs = search needs
 
--- src/cursor.rt:173:9
 returns : tie.Need-returns
 returns c = c .channel-at .ensures ∙ own-channel _ _ _ _ (c .before .if1 .taken)
 
--- src/cursor.rt:176:9
 meta-at-requires : tie.Need-meta-at-requires
 meta-at-requires c κs = search needs
 
--- src/cursor.rt:176:9
 returns-2 : tie.Need-returns-2
 returns-2 c = c .meta-at .ensures ∙ own-meta _ _ _ _ (c .before .if2 .taken)
 
--- src/cursor.rt:179:9
 sysex-at-requires : tie.Need-sysex-at-requires
 sysex-at-requires c κs = search needs
 
--- src/cursor.rt:179:9
 returns-3 : tie.Need-returns-3
 returns-3 c = c .sysex-at .ensures ∙ own-f0 _ _ _ _ (c .before .if3 .taken)
 
--- src/cursor.rt:182:9
 sysex-at-requires-2 : tie.Need-sysex-at-requires-2
 sysex-at-requires-2 c κs = search needs
 
--- src/cursor.rt:182:9
 returns-4 : tie.Need-returns-4
 returns-4 c = c .sysex-at2 .ensures ∙ own-f7 _ _ _ _ (c .before .if4 .taken)
 
--- src/cursor.rt:169:1
 returns-5 : tie.Need-returns-5
 returns-5 c = own-none _ _ _ _ (c .before .before .before .if1 .left) (c .before .before .if2 .left) (c .before .if3 .left) (c .if4 .left)
 

@@ -4,22 +4,16 @@ use Rattle.track.proofs.Parts.{over-cut, over-on}
 use borrow.Author.Needs.{needs}
 use Rattle.track.proofs.cursor.read_over.Statement.{statement}
 use Rattle.track.proofs.cursor.read_over.Tie as tie
-use Rattle.track.proofs.cursor.read_over.Reads as reads
-use Rattle.track.proofs.cursor.read_over.Lts as lts
 
--- src/cursor.rt:113:8
 sub-if1 : tie.Need-sub-if1
 sub-if1 c = search needs
 
--- src/cursor.rt:114:9
 returns : tie.Need-returns
 returns c = over-cut _ _ _ _ (omega (arith, c .if1 .taken, c .before .pre))
 
--- src/cursor.rt:117:13
 add-t8 : tie.Need-add-t8
 add-t8 c = search needs
 
--- src/cursor.rt:108:1
 returns-2 : tie.Need-returns-2
 returns-2 c = over-on _ _ _ _ (omega (arith, c .if1 .left, c .before .pre))
 

@@ -3,31 +3,22 @@ use Rattle.track.proofs.Parts.{data-cut, data-high, data-low, second-no
 use borrow.Author.Needs.{needs}
 use Rattle.track.proofs.cursor.second_data.Statement.{statement}
 use Rattle.track.proofs.cursor.second_data.Tie as tie
-use Rattle.track.proofs.cursor.second_data.Reads as reads
-use Rattle.track.proofs.cursor.second_data.Lts as lts
-use Rattle.track.proofs.cursor.channel_message.Reads as channel-message-reads
 
--- src/cursor.rt:71:9
 returns : tie.Need-returns
 returns c = second-none _ _ _ _ _ (data-cut _ _ (c .if1 .taken))
 
--- src/cursor.rt:73:20
 shared-slice-read-velocity : tie.Need-shared-slice-read-velocity
 shared-slice-read-velocity c = search needs
 
--- src/cursor.rt:75:9
 returns-2 : tie.Need-returns-2
 returns-2 c = second-none _ _ _ _ _ (data-high _ _ (c .before .before .if1 .left) (c .if2 .taken))
 
--- src/cursor.rt:78:13
 add-t8 : tie.Need-add-t8
 add-t8 c = search needs
 
--- src/cursor.rt:82:24
 channel-message-requires : tie.Need-channel-message-requires
 channel-message-requires c κs = search needs
 
--- src/cursor.rt:67:1
 returns-3 : tie.Need-returns-3
 returns-3 c = second-there _ _ _ _ _ (data-low _ _ (c .before .before .before .if1 .left) (c .before .if2 .left)) _ (c .channel-message .ensures)
 

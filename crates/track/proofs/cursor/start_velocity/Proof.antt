@@ -2,14 +2,10 @@
 use borrow.Author.Tests.{lt-ltb, le-ltb}
 use Rattle.track.proofs.cursor.start_velocity.Statement.{statement}
 use Rattle.track.proofs.cursor.start_velocity.Tie as tie
-use Rattle.track.proofs.cursor.start_velocity.Reads as reads
-use Rattle.track.proofs.cursor.start_velocity.Lts as lts
 
--- src/cursor.rt:218:9
 returns : tie.Need-returns
 returns c = rw (lt-ltb _ _ (c .if1 .taken))
 
--- src/cursor.rt:214:1
 returns-2 : tie.Need-returns-2
 returns-2 c = rw (le-ltb _ _ (c .if1 .left))
 

@@ -6,32 +6,22 @@ use Rattle.track.proofs.Parts.{sysex-none, sysex-over}
 use borrow.Author.Needs.{needs}
 use Rattle.track.proofs.cursor.sysex_at.Statement.{statement}
 use Rattle.track.proofs.cursor.sysex_at.Tie as tie
-use Rattle.track.proofs.cursor.sysex_at.Reads as reads
-use Rattle.track.proofs.cursor.sysex_at.Lts as lts
-use Rattle.track.proofs.cursor.read_over.Reads as read-over-reads
-use Rattle.track.proofs.quantities.quantity_at.Reads as quantity-at-reads
 
--- src/cursor.rt:162:11
 quantity-at-requires : tie.Need-quantity-at-requires
 quantity-at-requires c κs = search needs
 
--- src/cursor.rt:163:30
 enum-told : tie.Need-enum-told
 enum-told c = search needs
 
--- src/cursor.rt:164:26
 enum-known-n : tie.Need-enum-known-n
 enum-known-n c = search needs
 
--- src/cursor.rt:164:35
 read-over-requires : tie.Need-read-over-requires
 read-over-requires c κs = quantity-behind _ _ _ _ (sym (c .before .before .before .quantity-at .ensures) ∙ ap quantityOf (c .before .n .given .1))
 
--- src/cursor.rt:159:1
 returns : tie.Need-returns
 returns c = sysex-none _ _ _ (sym (c .before .before .quantity-at .ensures) ∙ ap quantityOf (c .enum-told .given .1))
 
--- src/cursor.rt:159:1
 returns-2 : tie.Need-returns-2
 returns-2 c = c .read-over .ensures ∙ sysex-over _ _ _ _ _ (sym (c .before .before .before .before .quantity-at .ensures) ∙ ap quantityOf (c .before .before .n .given .1))
 

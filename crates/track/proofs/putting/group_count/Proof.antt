@@ -5,18 +5,13 @@ use lib.Count.{leading-le}
 use native.Mathlib.Omega.{arith}
 use Rattle.track.proofs.putting.group_count.Statement.{statement}
 use Rattle.track.proofs.putting.group_count.Tie as tie
-use Rattle.track.proofs.putting.group_count.Reads as reads
-use Rattle.track.proofs.putting.group_count.Lts as lts
 
--- src/putting.rt:18:9
 returns : tie.Need-returns
 returns c = group-of-few _ (c .if1 .taken)
 
--- src/putting.rt:20:6
 sub-result : tie.Need-sub-result
 sub-result c = omega (arith, leading-le 32 (c .before .args .x))
 
--- src/putting.rt:13:1
 returns-2 : tie.Need-returns-2
 returns-2 c = groups-by-zeros (c .before .args .x) (omega arith) (c .before .pre)
 

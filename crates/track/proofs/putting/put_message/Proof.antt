@@ -6,43 +6,31 @@ use mathlib.Core.Path.{ap, _∙_}
 use borrow.Author.Needs.{needs}
 use Rattle.track.proofs.putting.put_message.Statement.{statement}
 use Rattle.track.proofs.putting.put_message.Tie as tie
-use Rattle.track.proofs.putting.put_message.Reads as reads
-use Rattle.track.proofs.putting.put_message.Lts as lts
-use Rattle.track.proofs.bytes.put_three.Reads as put-three-reads
 
--- src/putting.rt:53:24
 mul-status : tie.Need-mul-status
 mul-status c = search needs
 
--- src/putting.rt:53:18
 add-status : tie.Need-add-status
 add-status c = search needs
 
--- src/putting.rt:53:18
 add-status-2 : tie.Need-add-status-2
 add-status-2 c = search needs
 
--- src/putting.rt:57:9
 cast-put-three : tie.Need-cast-put-three
 cast-put-three c = search needs
 
--- src/putting.rt:58:9
 cast-put-three-2 : tie.Need-cast-put-three-2
 cast-put-three-2 c = search needs
 
--- src/putting.rt:59:9
 cast-put-three-3 : tie.Need-cast-put-three-3
 cast-put-three-3 c = search needs
 
--- src/putting.rt:54:5
 put-three-requires : tie.Need-put-three-requires
 put-three-requires c κs = search needs
 
--- src/putting.rt:49:1
 same-length : tie.Need-same-length
 same-length c = search needs
 
--- src/putting.rt:49:1
 returns : tie.Need-returns
 unfolding messageBytes
 returns c = c .before .before .put-three .ensures ∙ ap (splice _ _) (message-is _)

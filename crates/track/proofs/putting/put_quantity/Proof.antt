@@ -7,107 +7,77 @@ use native.Mathlib.Omega.{arith}
 use borrow.Author.Needs.{needs}
 use Rattle.track.proofs.putting.put_quantity.Statement.{statement}
 use Rattle.track.proofs.putting.put_quantity.Tie as tie
-use Rattle.track.proofs.putting.put_quantity.Reads as reads
-use Rattle.track.proofs.putting.put_quantity.Lts as lts
-use Rattle.track.proofs.bytes.put_four.Reads as put-four-reads
-use Rattle.track.proofs.bytes.put_three.Reads as put-three-reads
-use Rattle.track.proofs.bytes.put_two.Reads as put-two-reads
-use Rattle.track.proofs.putting.group_count.Reads as group-count-reads
 
--- src/putting.rt:28:9
 group-count-requires : tie.Need-group-count-requires
 group-count-requires c κs = search needs
 
--- src/putting.rt:29:16
 cast-last : tie.Need-cast-last
 cast-last c = search needs
 
--- src/putting.rt:31:9
 slice-write-out : tie.Need-slice-write-out
 slice-write-out c = search needs
 
--- src/putting.rt:32:16
 add-result : tie.Need-add-result
 add-result c = search needs
 
--- src/putting.rt:32:9
 same-length : tie.Need-same-length
 same-length c = search needs
 
--- src/putting.rt:32:9
 returns : tie.Need-returns
 unfolding splice
 returns c = let h = one-group _ (sym (c .before .group-count .ensures) ∙ c .if1 .taken) in (omega (arith, ap length h), rw h)
 
--- src/putting.rt:34:18
 add-third : tie.Need-add-third
 add-third c = search needs
 
--- src/putting.rt:34:17
 cast-third : tie.Need-cast-third
 cast-third c = search needs
 
--- src/putting.rt:36:9
 put-two-requires : tie.Need-put-two-requires
 put-two-requires c κs = search needs
 
--- src/putting.rt:37:16
 add-result-2 : tie.Need-add-result-2
 add-result-2 c = search needs
 
--- src/putting.rt:37:9
 same-length-2 : tie.Need-same-length-2
 same-length-2 c = search needs
 
--- src/putting.rt:37:9
 returns-2 : tie.Need-returns-2
 returns-2 c = let h = two-groups _ (sym (c .before .before .before .before .before .before .group-count .ensures) ∙ c .before .before .before .before .if2 .taken) in (omega (arith, ap length h), rw h (c .before .before .put-two .ensures))
 
--- src/putting.rt:39:19
 add-second : tie.Need-add-second
 add-second c = search needs
 
--- src/putting.rt:39:18
 cast-second : tie.Need-cast-second
 cast-second c = search needs
 
--- src/putting.rt:41:9
 put-three-requires : tie.Need-put-three-requires
 put-three-requires c κs = search needs
 
--- src/putting.rt:42:16
 add-result-3 : tie.Need-add-result-3
 add-result-3 c = search needs
 
--- src/putting.rt:42:9
 same-length-3 : tie.Need-same-length-3
 same-length-3 c = search needs
 
--- src/putting.rt:42:9
 returns-3 : tie.Need-returns-3
 returns-3 c = let h = three-groups _ (sym (c .before .before .before .before .before .before .before .group-count .ensures) ∙ c .before .before .before .before .if3 .taken) in (omega (arith, ap length h), rw h (c .before .before .put-three .ensures))
 
--- src/putting.rt:44:31
 add-put-four : tie.Need-add-put-four
 add-put-four c = search needs
 
--- src/putting.rt:44:30
 cast-put-four : tie.Need-cast-put-four
 cast-put-four c = search needs
 
--- src/putting.rt:44:5
 put-four-requires : tie.Need-put-four-requires
 put-four-requires c κs = let h = four-groups _ (λ d. c .before .before .before .if1 .left (c .before .before .before .before .group-count .ensures ∙ d)) (λ d. c .before .before .if2 .left (c .before .before .before .before .group-count .ensures ∙ d)) (λ d. c .before .if3 .left (c .before .before .before .before .group-count .ensures ∙ d)) in omega (arith, ap length h)
 
--- src/putting.rt:45:5
 add-result-4 : tie.Need-add-result-4
 add-result-4 c = search needs
 
--- src/putting.rt:24:1
 same-length-4 : tie.Need-same-length-4
 same-length-4 c = search needs
 
--- src/putting.rt:24:1
 returns-4 : tie.Need-returns-4
 returns-4 c = let h = four-groups _ (λ d. c .before .before .before .before .before .before .if1 .left (c .before .before .before .before .before .before .before .group-count .ensures ∙ d)) (λ d. c .before .before .before .before .before .if2 .left (c .before .before .before .before .before .before .before .group-count .ensures ∙ d)) (λ d. c .before .before .before .before .if3 .left (c .before .before .before .before .before .before .before .group-count .ensures ∙ d)) in (omega (arith, ap length h), rw h (c .before .before .put-four .ensures))
 

@@ -7,8 +7,6 @@ use Rattle.track.proofs.ReadGroups.{top, top-start, top-low, top-next, 
 use borrow.Author.Needs.{needs}
 use Rattle.track.proofs.quantities.quantity_at.Statement.{statement}
 use Rattle.track.proofs.quantities.quantity_at.Tie as tie
-use Rattle.track.proofs.quantities.quantity_at.Reads as reads
-use Rattle.track.proofs.quantities.quantity_at.Lts as lts
 
 abbrev Inv-loop : tie.InvT-loop
 Inv-loop s at q₀ sum₀ left₀ q sum left = (left ≤ 4) × (sum < top left) × (quantityFrom 4 s at 0 ≡ quantityFrom left s q sum)
@@ -16,67 +14,51 @@ Inv-loop s at q₀ sum₀ left₀ q sum left = (left ≤ 4) × (sum < top left) 
 abbrev μ-loop : tie.MeasureT-loop
 μ-loop s at q₀ sum₀ left₀ q sum left = left
 
--- src/quantities.rt:21:5
 loop-holds : tie.Need-loop-holds Inv-loop μ-loop
 loop-holds c = (omega arith, top-start, refl)
 
--- src/quantities.rt:23:13
 returns : tie.Need-returns Inv-loop μ-loop
 returns c = let l = c .before .before .loop in sym (l .inv .2 ∙ group-cut (l .left) _ (l .q) (l .sum) (c .before .loop-test .taken) (c .if1 .taken))
 
--- src/quantities.rt:25:17
 shared-slice-read-b : tie.Need-shared-slice-read-b Inv-loop μ-loop
 shared-slice-read-b c = search needs
 
--- src/quantities.rt:27:37
 mul-t11 : tie.Need-mul-t11 Inv-loop μ-loop
 mul-t11 c = let l = c .before .before .before .before .loop in let low : l .sum < 2097152 = top-low (l .left) (l .sum) (c .before .before .before .loop-test .taken) (l .inv .0) (l .inv .1) in omega arith
 
--- src/quantities.rt:27:49
 cast-t12 : tie.Need-cast-t12 Inv-loop μ-loop
 cast-t12 c = search needs
 
--- src/quantities.rt:27:37
 add-t13 : tie.Need-add-t13 Inv-loop μ-loop
 add-t13 c = let l = c .before .before .before .before .loop in let low : l .sum < 2097152 = top-low (l .left) (l .sum) (c .before .before .before .loop-test .taken) (l .inv .0) (l .inv .1) in omega arith
 
--- src/quantities.rt:27:59
 add-t14 : tie.Need-add-t14 Inv-loop μ-loop
 add-t14 c = search needs
 
--- src/quantities.rt:27:13
 returns-2 : tie.Need-returns-2 Inv-loop μ-loop
 returns-2 c = let l = c .before .before .before .before .loop in sym (l .inv .2 ∙ group-last (l .left) _ (l .q) (l .sum) (c .before .before .before .loop-test .taken) (c .before .before .if1 .left) (c .if2 .taken))
 
--- src/quantities.rt:29:15
 mul-sum : tie.Need-mul-sum Inv-loop μ-loop
 mul-sum c = let l = c .before .before .before .before .loop in let low : l .sum < 2097152 = top-low (l .left) (l .sum) (c .before .before .before .loop-test .taken) (l .inv .0) (l .inv .1) in omega arith
 
--- src/quantities.rt:29:27
 cast-sum : tie.Need-cast-sum Inv-loop μ-loop
 cast-sum c = let l = c .before .before .before .before .loop in omega (arith, c .before .shared-slice-known .given (l .q))
 
--- src/quantities.rt:29:15
 add-sum : tie.Need-add-sum Inv-loop μ-loop
 add-sum c = let l = c .before .before .before .before .loop in let low : l .sum < 2097152 = top-low (l .left) (l .sum) (c .before .before .before .loop-test .taken) (l .inv .0) (l .inv .1) in omega (arith, c .before .shared-slice-known .given (l .q))
 
--- src/quantities.rt:30:9
 add-q : tie.Need-add-q Inv-loop μ-loop
 add-q c = search needs
 
--- src/quantities.rt:31:9
 sub-left : tie.Need-sub-left Inv-loop μ-loop
 sub-left c = search needs
 
--- src/quantities.rt:21:5
 loop-less : tie.Need-loop-less Inv-loop μ-loop
 loop-less c = search needs
 
--- src/quantities.rt:21:5
 loop-again : tie.Need-loop-again Inv-loop μ-loop
 loop-again c = let l = c .before .before .before .before .loop in let t = c .before .before .before .loop-test .taken in (omega arith, top-next (l .left) (l .sum) _ t (l .inv .0) (l .inv .1) (omega (arith, c .before .shared-slice-known .given (l .q))), l .inv .2 ∙ group-more (l .left) _ (l .q) (l .sum) t (c .before .before .if1 .left) (c .if2 .left))
 
--- src/quantities.rt:15:1
 returns-3 : tie.Need-returns-3 Inv-loop μ-loop
 returns-3 c = let l = c .before .loop in sym (l .inv .2 ∙ group-none (l .left) _ (l .q) (l .sum) (c .loop-test .left))
 

@@ -5,30 +5,22 @@ use Rattle.writer.proofs.BucketLoops.{start-first, start-later}
 use borrow.Author.Needs.{needs}
 use Rattle.writer.proofs.emitting.bucket_start.Statement.{statement}
 use Rattle.writer.proofs.emitting.bucket_start.Tie as tie
-use Rattle.writer.proofs.emitting.bucket_start.Reads as reads
-use Rattle.writer.proofs.emitting.bucket_start.Lts as lts
 
--- src/emitting.rt:17:9
 returns : tie.Need-returns
 returns c = start-first _ _ (c .if1 .taken)
 
--- src/emitting.rt:19:10
 sub-result : tie.Need-sub-result
 sub-result c = search needs
 
--- src/emitting.rt:19:5
 mul-result : tie.Need-mul-result
 mul-result c = search needs
 
--- src/emitting.rt:19:5
 shared-slice-read-result : tie.Need-shared-slice-read-result
 shared-slice-read-result c = search needs
 
--- src/emitting.rt:19:5
 cast-result : tie.Need-cast-result
 cast-result c = omega (arith, c .shared-slice-known .given (c .before .before .args .v - 1))
 
--- src/emitting.rt:12:1
 returns-2 : tie.Need-returns-2
 returns-2 c = start-later _ _ (omega (arith, c .before .if1 .left))
 

@@ -4,77 +4,55 @@ use Rattle.writer.proofs.BucketLoops.{base-small, read-window, read-roo
 use borrow.Author.Needs.{needs}
 use Rattle.writer.proofs.emitting.put_bucket.Statement.{statement}
 use Rattle.writer.proofs.emitting.put_bucket.Tie as tie
-use Rattle.writer.proofs.emitting.put_bucket.Reads as reads
-use Rattle.writer.proofs.emitting.put_bucket.Lts as lts
-use Rattle.writer.proofs.emitting.bucket_start.Reads as bucket-start-reads
-use Rattle.writer.proofs.stored.read_bucket.Reads as read-bucket-reads
-use Rattle.writer.proofs.windows.put_window.Reads as put-window-reads
 
--- src/emitting.rt:27:9
 bucket-start-requires : tie.Need-bucket-start-requires
 bucket-start-requires c κs = search needs
 
--- src/emitting.rt:28:16
 mul-upto : tie.Need-mul-upto
 mul-upto c = search needs
 
--- src/emitting.rt:28:16
 shared-slice-read-upto : tie.Need-shared-slice-read-upto
 shared-slice-read-upto c = search needs
 
--- src/emitting.rt:28:16
 cast-upto : tie.Need-cast-upto
 cast-upto c = search needs
 
--- src/emitting.rt:29:42
 mul-read-bucket : tie.Need-mul-read-bucket
 mul-read-bucket c = omega (arith, base-small _ _ (c .before .before .before .before .before .before .before .before .pre .1 .narrow) (c .before .before .before .before .before .before .before .before .pre .2 .early))
 
--- src/emitting.rt:29:42
 mul-read-bucket-2 : tie.Need-mul-read-bucket-2
 mul-read-bucket-2 c = omega (arith, base-small _ _ (c .before .before .before .before .before .before .before .before .pre .1 .narrow) (c .before .before .before .before .before .before .before .before .pre .2 .early))
 
--- src/emitting.rt:29:5
 read-bucket-requires : tie.Need-read-bucket-requires
 read-bucket-requires c κs = let b = c .before .before .before .before .before .before .before .before .before .pre .1 in let h = c .before .before .before .before .before .before .before .before .before .pre .2 in let s = c .before .before .before .bucket-start .ensures in (omega (arith, b .rising _ (h .early), s), omega (arith, b .few _ (h .early), s), c .before .before .before .before .before .before .before .before .before .pre .0 .here, h .held, omega (arith, base-small _ _ (b .narrow) (h .early)))
 
--- src/emitting.rt:30:30
 mul-put-window : tie.Need-mul-put-window
 mul-put-window c = search needs
 
--- src/emitting.rt:30:30
 shared-slice-read-put-window : tie.Need-shared-slice-read-put-window
 shared-slice-read-put-window c = search needs
 
--- src/emitting.rt:30:30
 cast-put-window : tie.Need-cast-put-window
 cast-put-window c = search needs
 
--- src/emitting.rt:30:50
 mul-put-window-2 : tie.Need-mul-put-window-2
 mul-put-window-2 c = search needs
 
--- src/emitting.rt:30:50
 shared-slice-read-put-window-2 : tie.Need-shared-slice-read-put-window-2
 shared-slice-read-put-window-2 c = search needs
 
--- src/emitting.rt:30:63
 sub-put-window : tie.Need-sub-put-window
 sub-put-window c = omega (arith, c .before .before .before .before .before .before .before .before .before .before .before .before .before .before .before .before .pre .1 .rising _ (c .before .before .before .before .before .before .before .before .before .before .before .before .before .before .before .before .pre .2 .early), c .before .before .before .before .before .before .before .before .before .before .bucket-start .ensures)
 
--- src/emitting.rt:30:5
 put-window-requires : tie.Need-put-window-requires
 put-window-requires c κs = (read-window (c .before .before .before .before .before .before .before .before .before .before .before .before .before .before .before .before .pre .1) (c .before .before .before .before .before .before .before .before .before .before .before .before .before .before .before .before .pre .2) _ (c .before .before .before .before .before .before .before .before .before .before .bucket-start .ensures) (search needs) (c .before .before .before .before .before .before .read-bucket .ensures), read-room (c .before .before .before .before .before .before .before .before .before .before .before .before .before .before .before .before .pre .1) (c .before .before .before .before .before .before .before .before .before .before .before .before .before .before .before .before .pre .2) _ (c .before .before .before .before .before .before .before .before .before .before .bucket-start .ensures) (search needs) (c .before .before .before .before .before .before .read-bucket .ensures))
 
--- src/emitting.rt:23:1
 same-length : tie.Need-same-length
 same-length c = search needs
 
--- src/emitting.rt:23:1
 same-length-2 : tie.Need-same-length-2
 same-length-2 c = search needs
 
--- src/emitting.rt:23:1
 returns : tie.Need-returns
 returns c = read-bytes (c .before .before .before .before .before .before .before .before .before .before .before .before .before .before .before .before .before .before .before .pre .1) (c .before .before .before .before .before .before .before .before .before .before .before .before .before .before .before .before .before .before .before .pre .2) _ (c .before .before .before .before .before .before .before .before .before .before .before .before .before .bucket-start .ensures) (search needs) (c .before .before .before .before .before .before .before .before .before .read-bucket .ensures) (c .before .before .put-window .ensures .1)
 

@@ -7,52 +7,37 @@ use Rattle.writer.proofs.Tables.{table-window, table-last, table-length
 use borrow.Author.Needs.{needs}
 use Rattle.writer.proofs.few.fits.Statement.{statement}
 use Rattle.writer.proofs.few.fits.Tie as tie
-use Rattle.writer.proofs.few.fits.Reads as reads
-use Rattle.writer.proofs.few.fits.Lts as lts
-use Rattle.writer.proofs.windows.window_length.Reads as window-length-reads
-use Rattle.track.proofs.putting.group_count.Reads as group-count-reads
 
--- src/few.rt:19:13
 mul-if1 : tie.Need-mul-if1
 mul-if1 c = search needs
 
--- src/few.rt:19:8
 add-if1 : tie.Need-add-if1
 add-if1 c = search needs
 
--- src/few.rt:20:9
 returns : tie.Need-returns
 returns c = table-fits (c .before .before .pre) _ (c .if1 .taken)
 
--- src/few.rt:22:45
 mul-window-length : tie.Need-mul-window-length
 mul-window-length c = search needs
 
--- src/few.rt:22:9
 window-length-requires : tie.Need-window-length-requires
 window-length-requires c κs = (table-window (c .before .before .pre), omega (arith, table-length (c .before .before .pre), c .before .before .pre .bound, c .before .before .pre .few))
 
--- src/few.rt:23:39
 sub-group-count : tie.Need-sub-group-count
 sub-group-count c = omega (arith, table-last (c .before .before .before .before .pre), c .before .window-length .ensures .1)
 
--- src/few.rt:23:18
 group-count-requires : tie.Need-group-count-requires
 group-count-requires c κs = search needs
 
--- src/few.rt:23:18
 cast-result : tie.Need-cast-result
 cast-result c = omega (arith, table-count (c .before .before .before .before .before .pre) (c .before .before .window-length .ensures .0) (c .before .before .window-length .ensures .1) (c .group-count .ensures), c .before .before .before .before .before .pre .bound, c .before .before .before .before .before .pre .few)
 
--- src/few.rt:23:5
 add-result : tie.Need-add-result
 add-result c = omega (arith, table-count (c .before .before .before .before .before .before .pre) (c .before .before .before .window-length .ensures .0) (c .before .before .before .window-length .ensures .1) (c .before .group-count .ensures), c .before .before .before .before .before .before .pre .bound, c .before .before .before .before .before .before .pre .few)
 
--- src/few.rt:23:5
 add-result-2 : tie.Need-add-result-2
 add-result-2 c = omega (arith, table-count (c .before .before .before .before .before .before .pre) (c .before .before .before .window-length .ensures .0) (c .before .before .before .window-length .ensures .1) (c .before .group-count .ensures), c .before .before .before .before .before .before .pre .bound, c .before .before .before .before .before .before .pre .few)
 
--- src/few.rt:15:1
 returns-2 : tie.Need-returns-2
 returns-2 c = ap (λ (i : ℕ). leb i (c .before .before .before .before .before .before .args .room)) (table-count (c .before .before .before .before .before .before .pre) (c .before .before .before .window-length .ensures .0) (c .before .before .before .window-length .ensures .1) (c .before .group-count .ensures))
 

@@ -8,95 +8,67 @@ use Rattle.writer.proofs.Written.{left-short, left-room, header-room, f
 use borrow.Author.Needs.{needs}
 use Rattle.writer.proofs.few.put_few.Statement.{statement}
 use Rattle.writer.proofs.few.put_few.Tie as tie
-use Rattle.writer.proofs.few.put_few.Reads as reads
-use Rattle.writer.proofs.few.put_few.Lts as lts
-use Rattle.writer.proofs.few.fits.Reads as fits-reads
-use Rattle.writer.proofs.few.put_track.Reads as put-track-reads
-use Rattle.writer.proofs.files.put_header.Reads as put-header-reads
-use Rattle.order.proofs.put_all.Reads as put-all-reads
-use Rattle.radix.proofs.sort.Reads as sort-reads
 
--- src/few.rt:43:15
 mul-end : tie.Need-mul-end
 mul-end c = search needs
 
--- src/few.rt:44:30
 slice-aggregate-put-all : tie.Need-slice-aggregate-put-all
 slice-aggregate-put-all c = search needs
 
--- src/few.rt:44:5
 put-all-requires : tie.Need-put-all-requires
 put-all-requires c κs = search needs
 
--- src/few.rt:45:17
 slice-aggregate-sort : tie.Need-slice-aggregate-sort
 slice-aggregate-sort c = search needs
 
--- src/few.rt:45:25
 slice-aggregate-sort-2 : tie.Need-slice-aggregate-sort-2
 slice-aggregate-sort-2 c = search needs
 
--- src/few.rt:45:33
 mul-sort : tie.Need-mul-sort
 mul-sort c = search needs
 
--- src/few.rt:45:44
 slice-aggregate-sort-3 : tie.Need-slice-aggregate-sort-3
 slice-aggregate-sort-3 c = search needs
 
--- src/few.rt:45:65
 cast-sort : tie.Need-cast-sort
 cast-sort c = search needs
 
--- src/few.rt:45:60
 mul-sort-2 : tie.Need-mul-sort-2
 mul-sort-2 c = search needs
 
--- src/few.rt:45:60
 add-sort : tie.Need-add-sort
 add-sort c = search needs
 
--- src/few.rt:45:5
 sort-requires : tie.Need-sort-requires
 sort-requires c κs = sort-asks (c .before .before .before .before .before .before .before .before .pre .0) (c .before .before .before .before .before .before .before .before .pre .1) (c .before .before .before .before .put-all .ensures) (search needs) (search needs) (search needs) (c .before .before .before .before .before .before .before .before .pre .2)
 
--- src/few.rt:46:14
 slice-aggregate-fits : tie.Need-slice-aggregate-fits
 slice-aggregate-fits c = search needs
 
--- src/few.rt:46:9
 fits-requires : tie.Need-fits-requires
 fits-requires c κs = table-asks (c .before .before .before .before .before .before .before .before .before .before .before .before .before .pre .0) (c .before .before .before .before .before .before .before .before .before .before .before .before .before .pre .1) (c .before .before .before .before .sort .ensures ∙ ap sort (c .before .before .before .before .before .before .before .before .before .put-all .ensures)) (search needs)
 
--- src/few.rt:47:9
 returns : tie.Need-returns
 returns c = file-none (c .before .before .before .before .before .before .before .before .before .before .before .before .before .before .before .pre .0) _ (table-leb (c .before .before .before .before .before .before .before .before .before .before .before .before .before .before .before .pre .0) (c .before .before .before .before .before .before .before .before .before .before .before .before .before .before .before .pre .1) (c .before .before .before .before .before .before .sort .ensures ∙ ap sort (c .before .before .before .before .before .before .before .before .before .before .before .put-all .ensures)) _ (c .before .fits2 .ensures) ∙ not-true _ (c .if1 .taken))
 
--- src/few.rt:49:33
 slice-aggregate-put-track : tie.Need-slice-aggregate-put-track
 slice-aggregate-put-track c = search needs
 
--- src/few.rt:49:9
 put-track-requires : tie.Need-put-track-requires
 put-track-requires c κs = (table-asks (c .before .before .before .before .before .before .before .before .before .before .before .before .before .before .before .before .before .pre .0) (c .before .before .before .before .before .before .before .before .before .before .before .before .before .before .before .before .before .pre .1) (c .before .before .before .before .before .before .before .before .sort .ensures ∙ ap sort (c .before .before .before .before .before .before .before .before .before .before .before .before .before .put-all .ensures)) (search needs), left-room (c .before .before .before .before .before .before .before .before .before .before .before .before .before .before .before .before .before .pre .0) (c .before .before .before .before .before .before .before .before .sort .ensures ∙ ap sort (c .before .before .before .before .before .before .before .before .before .before .before .before .before .put-all .ensures)) (c .before .before .before .before .before .before .before .before .before .before .before .before .before .before .before .before .before .args .out .now) (table-leb (c .before .before .before .before .before .before .before .before .before .before .before .before .before .before .before .before .before .pre .0) (c .before .before .before .before .before .before .before .before .before .before .before .before .before .before .before .before .before .pre .1) (c .before .before .before .before .before .before .before .before .sort .ensures ∙ ap sort (c .before .before .before .before .before .before .before .before .before .before .before .before .before .put-all .ensures)) _ (c .before .before .before .fits2 .ensures) ∙ not-false _ (c .before .before .if1 .left)))
 
--- src/few.rt:50:36
 sub-put-header : tie.Need-sub-put-header
 sub-put-header c = search needs
 
--- src/few.rt:50:35
 cast-put-header : tie.Need-cast-put-header
 cast-put-header c = omega (arith, left-short (c .before .before .before .before .before .before .before .before .before .before .before .before .before .before .before .before .before .before .before .before .before .pre .0) (c .before .before .before .before .before .before .before .before .before .before .before .before .sort .ensures ∙ ap sort (c .before .before .before .before .before .before .before .before .before .before .before .before .before .before .before .before .before .put-all .ensures)), c .before .before .before .put-track .ensures .0, c .before .before .before .before .before .before .before .before .before .before .before .before .before .before .before .before .before .before .before .before .before .pre .1)
 
--- src/few.rt:50:5
 put-header-requires : tie.Need-put-header-requires
 put-header-requires c κs = (c .before .before .before .before .before .before .before .before .before .before .before .before .before .before .before .before .before .before .before .before .before .pre .0 .delta-low, header-room (c .before .before .before .before .before .before .before .before .before .before .before .before .before .before .before .before .before .before .before .before .before .pre .0) (c .before .before .before .before .before .before .before .before .before .before .before .before .sort .ensures ∙ ap sort (c .before .before .before .before .before .before .before .before .before .before .before .before .before .before .before .before .before .put-all .ensures)) _ (table-leb (c .before .before .before .before .before .before .before .before .before .before .before .before .before .before .before .before .before .before .before .before .before .pre .0) (c .before .before .before .before .before .before .before .before .before .before .before .before .before .before .before .before .before .before .before .before .before .pre .1) (c .before .before .before .before .before .before .before .before .before .before .before .before .sort .ensures ∙ ap sort (c .before .before .before .before .before .before .before .before .before .before .before .before .before .before .before .before .before .put-all .ensures)) _ (c .before .before .before .before .before .before .before .fits2 .ensures) ∙ not-false _ (c .before .before .before .before .before .before .if1 .left)) (c .before .before .before .put-track .ensures .1))
 
--- src/few.rt:36:1
 same-length : tie.Need-same-length
 same-length c = search needs
 
--- src/few.rt:36:1
 returns-2 : tie.Need-returns-2
 returns-2 c = file-put (c .before .before .before .before .before .before .before .before .before .before .before .before .before .before .before .before .before .before .before .before .before .before .before .before .pre .0) (c .before .before .before .before .before .before .before .before .before .before .before .before .before .before .before .sort .ensures ∙ ap sort (c .before .before .before .before .before .before .before .before .before .before .before .before .before .before .before .before .before .before .before .before .put-all .ensures)) _ (table-leb (c .before .before .before .before .before .before .before .before .before .before .before .before .before .before .before .before .before .before .before .before .before .before .before .before .pre .0) (c .before .before .before .before .before .before .before .before .before .before .before .before .before .before .before .before .before .before .before .before .before .before .before .before .pre .1) (c .before .before .before .before .before .before .before .before .before .before .before .before .before .before .before .sort .ensures ∙ ap sort (c .before .before .before .before .before .before .before .before .before .before .before .before .before .before .before .before .before .before .before .before .put-all .ensures)) _ (c .before .before .before .before .before .before .before .before .before .before .fits2 .ensures) ∙ not-false _ (c .before .before .before .before .before .before .before .before .before .if1 .left)) (c .before .before .before .before .before .before .put-track .ensures .0) (c .before .before .before .before .before .before .put-track .ensures .1) (c .before .before .put-header .ensures)
 

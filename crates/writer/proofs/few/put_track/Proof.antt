@@ -5,32 +5,22 @@ use Rattle.writer.proofs.Tables.{table-window, table-last, table-length
 use borrow.Author.Needs.{needs}
 use Rattle.writer.proofs.few.put_track.Statement.{statement}
 use Rattle.writer.proofs.few.put_track.Tie as tie
-use Rattle.writer.proofs.few.put_track.Reads as reads
-use Rattle.writer.proofs.few.put_track.Lts as lts
-use Rattle.writer.proofs.windows.put_window.Reads as put-window-reads
-use Rattle.track.proofs.putting.put_end.Reads as put-end-reads
 
--- src/few.rt:31:54
 mul-put-window : tie.Need-mul-put-window
 mul-put-window c = search needs
 
--- src/few.rt:31:9
 put-window-requires : tie.Need-put-window-requires
 put-window-requires c κs = (table-window (c .before .before .before .pre .0), omega (arith, table-length (c .before .before .before .pre .0), c .before .before .before .pre .1))
 
--- src/few.rt:32:39
 sub-put-end : tie.Need-sub-put-end
 sub-put-end c = omega (arith, table-last (c .before .before .before .before .before .before .before .before .pre .0), c .before .before .before .before .put-window .ensures .0 .1)
 
--- src/few.rt:32:5
 put-end-requires : tie.Need-put-end-requires
 put-end-requires c κs = (omega (arith, c .before .before .before .before .before .before .before .before .pre .0 .short), table-end (c .before .before .before .before .before .before .before .before .pre .0) _ (c .before .before .before .before .put-window .ensures .0 .0) (c .before .before .before .before .put-window .ensures .0 .1) (c .before .before .before .before .put-window .ensures .1) (c .before .before .before .before .before .before .before .before .pre .1))
 
--- src/few.rt:27:1
 same-length : tie.Need-same-length
 same-length c = search needs
 
--- src/few.rt:27:1
 returns : tie.Need-returns
 returns c = (c .before .before .put-end .ensures .0 ∙ table-count (c .before .before .before .before .before .before .before .before .before .before .before .pre .0) (c .before .before .before .before .before .before .before .put-window .ensures .0 .0) (c .before .before .before .before .before .before .before .put-window .ensures .0 .1) refl, table-put (c .before .before .before .before .before .before .before .before .before .before .before .pre .0) _ (c .before .before .before .before .before .before .before .put-window .ensures .0 .0) (c .before .before .before .before .before .before .before .put-window .ensures .0 .1) (c .before .before .before .before .before .before .before .put-window .ensures .1) (c .before .before .put-end .ensures .1))
 

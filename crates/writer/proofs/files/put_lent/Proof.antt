@@ -7,12 +7,6 @@ use Rattle.writer.proofs.Shelves.{ordered, ends-within, end-short}
 use borrow.Author.Needs.{needs}
 use Rattle.writer.proofs.files.put_lent.Statement.{statement}
 use Rattle.writer.proofs.files.put_lent.Tie as tie
-use Rattle.writer.proofs.files.put_lent.Reads as reads
-use Rattle.writer.proofs.files.put_lent.Lts as lts
-use Rattle.buckets.proofs.plan.Reads as plan-reads
-use Rattle.writer.proofs.many.put_many.Reads as put-many-reads
-use Rattle.writer.proofs.wide.bucket_ticks.Reads as bucket-ticks-reads
-use Rattle.writer.proofs.wide.put_wide.Reads as put-wide-reads
 
 mul-bucket-ticks : tie.Need-mul-bucket-ticks
 mul-bucket-ticks c = omega (arith, end-short (c .before .before .before .before .before .before .before .before .pre .0))

@@ -2,9 +2,6 @@
 use borrow.Author.Needs.{needs}
 use Rattle.writer.proofs.files.put_long_file.Statement.{statement}
 use Rattle.writer.proofs.files.put_long_file.Tie as tie
-use Rattle.writer.proofs.files.put_long_file.Reads as reads
-use Rattle.writer.proofs.files.put_long_file.Lts as lts
-use Rattle.writer.proofs.files.put_lent.Reads as put-lent-reads
 
 slice-aggregate-put-lent : tie.Need-slice-aggregate-put-lent
 slice-aggregate-put-lent c = search needs

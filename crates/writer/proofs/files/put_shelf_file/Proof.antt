@@ -4,43 +4,31 @@ use native.Mathlib.Omega.{arith}
 use borrow.Author.Needs.{needs}
 use Rattle.writer.proofs.files.put_shelf_file.Statement.{statement}
 use Rattle.writer.proofs.files.put_shelf_file.Tie as tie
-use Rattle.writer.proofs.files.put_shelf_file.Reads as reads
-use Rattle.writer.proofs.files.put_shelf_file.Lts as lts
-use Rattle.writer.proofs.files.put_file.Reads as put-file-reads
 
--- src/files.rt:94:17
 shared-slice-read-count : tie.Need-shared-slice-read-count
 shared-slice-read-count c = omega (arith, counts-inside _ _ (c .before .before .before .pre))
 
--- src/files.rt:94:17
 cast-count : tie.Need-cast-count
 cast-count c = omega (arith, notes-few _ _ (c .before .before .before .pre))
 
--- src/files.rt:95:14
 sub-put-file : tie.Need-sub-put-file
 sub-put-file c = omega (arith, counts-inside _ _ (c .before .before .before .pre))
 
--- src/files.rt:95:14
 part-put-file-start : tie.Need-part-put-file-start
 part-put-file-start c = omega (arith, counts-inside _ _ (c .before .before .before .pre))
 
--- src/files.rt:95:14
 part-put-file-end : tie.Need-part-put-file-end
 part-put-file-end c = search needs
 
--- src/files.rt:95:52
 shared-slice-read-put-file : tie.Need-shared-slice-read-put-file
 shared-slice-read-put-file c = omega (arith, counts-inside _ _ (c .before .before .before .before .before .pre))
 
--- src/files.rt:95:5
 put-file-requires : tie.Need-put-file-requires
 put-file-requires c κs = file-asks _ _ (c .before .before .before .before .before .before .pre)
 
--- src/files.rt:90:1
 same-length : tie.Need-same-length
 same-length c = search needs
 
--- src/files.rt:90:1
 returns : tie.Need-returns
 returns c = rw (file-is _ _ (c .before .before .before .before .before .before .before .before .before .pre)) at (c .before .before .put-file .ensures)
 

@@ -5,64 +5,46 @@ use Rattle.writer.proofs.Written.{bound-fits, left-short, counted-fits}
 use borrow.Author.Needs.{needs}
 use Rattle.writer.proofs.many.fits.Statement.{statement}
 use Rattle.writer.proofs.many.fits.Tie as tie
-use Rattle.writer.proofs.many.fits.Reads as reads
-use Rattle.writer.proofs.many.fits.Lts as lts
-use Rattle.writer.proofs.tracks.length_left.Reads as length-left-reads
-use Rattle.order.proofs.runs.Reads as runs-reads
 
--- src/many.rt:40:13
 mul-if1 : tie.Need-mul-if1
 mul-if1 c = search needs
 
--- src/many.rt:40:8
 add-if1 : tie.Need-add-if1
 add-if1 c = search needs
 
--- src/many.rt:41:9
 returns : tie.Need-returns
 returns c = bound-fits (c .before .before .before .before .before .before .before .before .pre .0) _ (c .if1 .taken)
 
--- src/many.rt:43:5
 runs-requires : tie.Need-runs-requires
 runs-requires c κs = (ordered (c .before .before .before .before .before .before .before .before .before .before .pre .0), c .before .before .before .before .before .before .before .before .before .before .pre .1 .each, c .before .before .before .before .before .before .before .before .before .before .pre .1 .some, omega (arith, c .before .before .before .before .before .before .before .before .before .before .pre .1 .most, c .before .before .before .before .before .before .before .before .before .before .pre .2 .starts), omega (arith, c .before .before .before .before .before .before .before .before .before .before .pre .1 .most, c .before .before .before .before .before .before .before .before .before .before .pre .2 .limits))
 
--- src/many.rt:44:80
 mul-length-left : tie.Need-mul-length-left
 mul-length-left c = omega (arith, end-short (c .before .before .before .before .before .before .before .before .before .before .before .before .before .before .before .before .before .before .before .before .before .pre .0))
 
--- src/many.rt:44:9
 length-left-requires : tie.Need-length-left-requires
 length-left-requires c κs = (track-asks (c .before .before .before .before .before .before .before .before .before .before .before .before .before .before .before .before .before .before .before .before .before .pre .0) (c .before .before .before .before .before .before .before .before .before .before .runs .ensures) (c .before .before .before .before .before .before .before .before .before .before .before .before .before .before .before .before .before .before .before .before .before .pre .1) (record { starts = omega (arith, c .before .before .before .before .before .before .before .before .before .before .before .before .before .before .before .before .before .before .before .before .before .pre .2 .starts); limits = omega (arith, c .before .before .before .before .before .before .before .before .before .before .before .before .before .before .before .before .before .before .before .before .before .pre .2 .limits); next = omega (arith, c .before .before .before .before .before .before .before .before .before .before .before .before .before .before .before .before .before .before .before .before .before .pre .2 .next); here = omega (arith, c .before .before .before .before .before .before .before .before .before .before .before .before .before .before .before .before .before .before .before .before .before .pre .2 .here); there = omega (arith, c .before .before .before .before .before .before .before .before .before .before .before .before .before .before .before .before .before .before .before .before .before .pre .2 .there); table = omega (arith, c .before .before .before .before .before .before .before .before .before .before .before .before .before .before .before .before .before .before .before .before .before .pre .2 .table) }), omega (arith, left-short (c .before .before .before .before .before .before .before .before .before .before .before .before .before .before .before .before .before .before .before .before .before .pre .0) (c .before .before .before .before .before .before .before .before .before .before .runs .ensures .all), c .before .before .before .before .before .before .before .before .before .before .before .before .before .before .before .before .before .before .before .before .before .pre .0 .few))
 
--- src/many.rt:45:5
 add-result : tie.Need-add-result
 add-result c = omega (arith, left-short (c .before .before .before .before .before .before .before .before .before .before .before .before .before .before .before .before .before .before .before .before .before .before .before .before .before .before .before .before .before .before .before .before .pre .0) (c .before .before .before .before .before .before .before .before .before .before .before .before .before .before .before .before .before .before .before .before .before .runs .ensures .all), c .before .before .before .before .before .before .before .before .before .before .length-left .ensures, c .before .before .before .before .before .before .before .before .before .before .before .before .before .before .before .before .before .before .before .before .before .before .before .before .before .before .before .before .before .before .before .before .pre .0 .few)
 
--- src/many.rt:23:1
 same-length : tie.Need-same-length
 same-length c = search needs
 
--- src/many.rt:23:1
 same-length-2 : tie.Need-same-length-2
 same-length-2 c = search needs
 
--- src/many.rt:23:1
 same-length-3 : tie.Need-same-length-3
 same-length-3 c = search needs
 
--- src/many.rt:23:1
 same-length-4 : tie.Need-same-length-4
 same-length-4 c = search needs
 
--- src/many.rt:23:1
 same-length-5 : tie.Need-same-length-5
 same-length-5 c = search needs
 
--- src/many.rt:23:1
 same-length-6 : tie.Need-same-length-6
 same-length-6 c = search needs
 
--- src/many.rt:23:1
 returns-2 : tie.Need-returns-2
 returns-2 c = counted-fits (c .before .before .before .before .before .before .before .before .before .before .before .before .before .before .before .before .before .before .before .before .before .before .before .before .before .before .before .before .before .before .before .before .pre .0) (c .before .before .before .before .before .before .before .before .before .before .before .before .before .before .before .before .before .before .before .before .before .runs .ensures .all) _ (c .before .before .before .before .before .before .before .before .before .before .length-left .ensures)
 

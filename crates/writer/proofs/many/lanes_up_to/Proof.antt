@@ -4,38 +4,28 @@ use Rattle.writer.proofs.Shelves.{lanes-none, lanes-last}
 use borrow.Author.Needs.{needs}
 use Rattle.writer.proofs.many.lanes_up_to.Statement.{statement}
 use Rattle.writer.proofs.many.lanes_up_to.Tie as tie
-use Rattle.writer.proofs.many.lanes_up_to.Reads as reads
-use Rattle.writer.proofs.many.lanes_up_to.Lts as lts
 
--- src/many.rt:17:9
 returns : tie.Need-returns
 returns c = lanes-none _ _ (c .if1 .taken)
 
--- src/many.rt:19:12
 sub-result : tie.Need-sub-result
 sub-result c = search needs
 
--- src/many.rt:19:7
 mul-result : tie.Need-mul-result
 mul-result c = search needs
 
--- src/many.rt:19:5
 mul-result-2 : tie.Need-mul-result-2
 mul-result-2 c = search needs
 
--- src/many.rt:19:5
 shared-slice-read-result : tie.Need-shared-slice-read-result
 shared-slice-read-result c = search needs
 
--- src/many.rt:19:5
 cast-result : tie.Need-cast-result
 cast-result c = omega (arith, lanes-last _ _ (c .before .before .pre) (omega arith) .most)
 
--- src/many.rt:19:5
 add-result : tie.Need-add-result
 add-result c = omega (arith, lanes-last _ _ (c .before .before .pre) (omega arith) .most)
 
--- src/many.rt:12:1
 returns-2 : tie.Need-returns-2
 returns-2 c = lanes-last _ _ (c .before .before .pre) (omega arith)
 

@@ -9,13 +9,6 @@ use Rattle.writer.proofs.TrackLoops.{Counting, counting-start, counting
 use borrow.Author.Needs.{needs}
 use Rattle.writer.proofs.tracks.length_left.Statement.{statement}
 use Rattle.writer.proofs.tracks.length_left.Tie as tie
-use Rattle.writer.proofs.tracks.length_left.Reads as reads
-use Rattle.writer.proofs.tracks.length_left.Lts as lts
-use Rattle.writer.proofs.windows.window_length.Reads as window-length-reads
-use Rattle.order.proofs.taking.first_width.Reads as first-width-reads
-use Rattle.order.proofs.taking.next_width.Reads as next-width-reads
-use Rattle.order.proofs.taking.take_window.Reads as take-window-reads
-use Rattle.track.proofs.putting.group_count.Reads as group-count-reads
 
 abbrev Inv-loop : tie.InvT-loop
 Inv-loop s count n pos₀ ends to₀ a₀ b₀ places₀ end left₀ from₀ width₀ at₀ tick₀ pos to a b places left from width at tick =
@@ -26,87 +19,66 @@ abbrev μ-loop : tie.MeasureT-loop
 μ-loop s count n pos₀ ends to₀ a₀ b₀ places₀ end left₀ from₀ width₀ at₀ tick₀ pos to a b places left from width at tick =
     272629761 - from
 
--- src/tracks.rt:27:20
 mul-left : tie.Need-mul-left Inv-loop μ-loop
 mul-left c = omega (arith, c .before .before .before .before .before .before .before .pre .0 .few)
 
--- src/tracks.rt:29:9
 first-width-requires : tie.Need-first-width-requires Inv-loop μ-loop
 first-width-requires c κs = omega (arith, c .before .before .before .before .before .before .before .pre .0 .few)
 
--- src/tracks.rt:32:5
 loop-holds : tie.Need-loop-holds Inv-loop μ-loop
 loop-holds c = (counting-start (c .before .before .before .before .before .before .before .before .pre .0) _ _ (c .first-width .ensures), refl, refl, refl, refl, refl)
 
--- src/tracks.rt:33:13
 take-window-requires : tie.Need-take-window-requires Inv-loop μ-loop
 take-window-requires c κs = (record { inside = c .before .before .before .before .before .before .before .before .before .before .before .before .before .before .before .pre .0 .inside; queues = c .before .before .before .before .before .before .loop .inv .0 .ahead .queues; lanes = c .before .before .before .before .before .before .before .before .before .before .before .before .before .before .before .pre .0 .lanes; room = omega (arith, c .before .before .before .before .before .before .before .before .before .before .before .before .before .before .before .pre .0 .room, c .before .before .before .before .before .before .loop .inv .2); here = omega (arith, c .before .before .before .before .before .before .before .before .before .before .before .before .before .before .before .pre .0 .here, c .before .before .before .before .before .before .loop .inv .3); behind = c .before .before .before .before .before .before .loop .inv .0 .ahead .behind; early = left-early (c .before .before .before .before .before .before .loop .inv .0 .ahead) (c .before .before .before .before .before .loop-test .taken); wide = c .before .before .before .before .before .before .loop .inv .0 .ahead .wide }, omega (arith, c .before .before .before .before .before .before .before .before .before .before .before .before .before .before .before .pre .0 .there, c .before .before .before .before .before .before .loop .inv .4), omega (arith, c .before .before .before .before .before .before .before .before .before .before .before .before .before .before .before .pre .0 .table, c .before .before .before .before .before .before .loop .inv .5))
 
--- src/tracks.rt:34:13
 window-length-requires : tie.Need-window-length-requires Inv-loop μ-loop
 window-length-requires c κs = (left-window (c .before .before .before .before .before .before .before .before .before .before .before .before .before .before .before .before .before .before .loop .inv .0 .ahead) (c .before .before .before .before .before .before .before .before .before .before .before .take-window .ensures) (omega (arith, c .before .before .before .before .before .before .before .before .before .before .before .before .before .before .before .before .before .before .before .before .before .before .before .before .before .before .before .pre .0 .here, c .before .before .before .before .before .before .before .before .before .before .before .before .before .before .before .before .before .before .loop .inv .3)) (omega (arith, c .before .before .before .before .before .before .before .before .before .before .before .before .before .before .before .before .before .before .before .before .before .before .before .before .before .before .before .pre .0 .short)), omega (arith, counting-room (c .before .before .before .before .before .before .before .before .before .before .before .before .before .before .before .before .before .before .loop .inv .0) (c .before .before .before .before .before .before .before .before .before .before .before .take-window .ensures) (omega (arith, c .before .before .before .before .before .before .before .before .before .before .before .before .before .before .before .before .before .before .before .before .before .before .before .before .before .before .before .pre .0 .here, c .before .before .before .before .before .before .before .before .before .before .before .before .before .before .before .before .before .before .loop .inv .3)), c .before .before .before .before .before .before .before .before .before .before .before .before .before .before .before .before .before .before .before .before .before .before .before .before .before .before .before .pre .1))
 
--- src/tracks.rt:37:9
 sub-left : tie.Need-sub-left Inv-loop μ-loop
 sub-left c = omega (arith, left-fewer (c .before .before .before .before .before .before .before .before .before .before .before .before .before .before .before .before .before .before .before .before .loop .inv .0 .ahead) (c .before .before .before .before .before .before .before .before .before .before .before .before .before .take-window .ensures) (omega (arith, c .before .before .before .before .before .before .before .before .before .before .before .before .before .before .before .before .before .before .before .before .before .before .before .before .before .before .before .before .before .pre .0 .here, c .before .before .before .before .before .before .before .before .before .before .before .before .before .before .before .before .before .before .before .before .loop .inv .3)))
 
--- src/tracks.rt:38:9
 add-from : tie.Need-add-from Inv-loop μ-loop
 add-from c = omega (arith, c .before .before .before .before .before .before .before .before .before .before .before .before .before .before .before .before .before .before .before .before .before .loop .inv .0 .ahead .late, c .before .before .before .before .before .before .before .before .before .before .before .before .before .before .take-window .ensures .wide .most)
 
--- src/tracks.rt:39:9
 next-width-requires : tie.Need-next-width-requires Inv-loop μ-loop
 next-width-requires c κs = (c .before .before .before .before .before .before .before .before .before .before .before .before .before .before .take-window .ensures .wide, c .before .before .before .before .before .before .before .before .before .before .before .before .before .before .take-window .ensures .few)
 
--- src/tracks.rt:32:5
 loop-less : tie.Need-loop-less Inv-loop μ-loop
 loop-less c = omega (arith, left-early (c .before .before .before .before .before .before .before .before .before .before .before .before .before .before .before .before .before .before .before .before .before .before .loop .inv .0 .ahead) (c .before .before .before .before .before .before .before .before .before .before .before .before .before .before .before .before .before .before .before .before .before .loop-test .taken), c .before .before .before .before .before .before .before .before .before .before .before .before .before .before .before .take-window .ensures .wide .some)
 
--- src/tracks.rt:32:5
 loop-again : tie.Need-loop-again Inv-loop μ-loop
 loop-again c = (counting-more (c .before .before .before .before .before .before .before .before .before .before .before .before .before .before .before .before .before .before .before .before .before .before .loop .inv .0) (c .before .before .before .before .before .before .before .before .before .before .before .before .before .before .before .take-window .ensures) (omega (arith, c .before .before .before .before .before .before .before .before .before .before .before .before .before .before .before .before .before .before .before .before .before .before .before .before .before .before .before .before .before .before .before .pre .0 .here, c .before .before .before .before .before .before .before .before .before .before .before .before .before .before .before .before .before .before .before .before .before .before .loop .inv .3)) _ _ _ (c .before .before .before .before .before .before .before .before .before .before .before .before .before .before .before .before .before .before .before .before .before .loop-test .taken) (c .before .before .before .window-length .ensures .0) (c .before .before .before .window-length .ensures .1) (c .next-width .ensures), search needs, search needs, search needs, search needs, search needs)
 
--- src/tracks.rt:41:31
 sub-group-count : tie.Need-sub-group-count Inv-loop μ-loop
 sub-group-count c = omega (arith, left-within (c .before .loop .inv .0 .ahead))
 
--- src/tracks.rt:41:10
 group-count-requires : tie.Need-group-count-requires Inv-loop μ-loop
 group-count-requires c κs = omega (arith, c .before .before .before .before .before .before .before .before .before .before .pre .0 .short)
 
--- src/tracks.rt:41:10
 cast-result : tie.Need-cast-result Inv-loop μ-loop
 cast-result c = omega (arith, counting-over (c .before .before .loop .inv .0) (c .before .loop-test .left), c .group-count .ensures, c .before .before .before .before .before .before .before .before .before .before .before .pre .1)
 
--- src/tracks.rt:41:5
 add-result : tie.Need-add-result Inv-loop μ-loop
 add-result c = omega (arith, counting-over (c .before .before .loop .inv .0) (c .before .loop-test .left), c .group-count .ensures, c .before .before .before .before .before .before .before .before .before .before .before .pre .1)
 
--- src/tracks.rt:41:5
 add-result-2 : tie.Need-add-result-2 Inv-loop μ-loop
 add-result-2 c = omega (arith, counting-over (c .before .before .loop .inv .0) (c .before .loop-test .left), c .group-count .ensures, c .before .before .before .before .before .before .before .before .before .before .before .pre .1)
 
--- src/tracks.rt:12:1
 same-length : tie.Need-same-length Inv-loop μ-loop
 same-length c = search needs
 
--- src/tracks.rt:12:1
 same-length-2 : tie.Need-same-length-2 Inv-loop μ-loop
 same-length-2 c = search needs
 
--- src/tracks.rt:12:1
 same-length-3 : tie.Need-same-length-3 Inv-loop μ-loop
 same-length-3 c = search needs
 
--- src/tracks.rt:12:1
 same-length-4 : tie.Need-same-length-4 Inv-loop μ-loop
 same-length-4 c = search needs
 
--- src/tracks.rt:12:1
 same-length-5 : tie.Need-same-length-5 Inv-loop μ-loop
 same-length-5 c = search needs
 
--- src/tracks.rt:12:1
 returns : tie.Need-returns Inv-loop μ-loop
 returns c = omega (arith, counting-over (c .before .before .loop .inv .0) (c .before .loop-test .left), c .group-count .ensures)
 

@@ -5,10 +5,6 @@ use Rattle.writer.proofs.WindowLoops.{Putting, putting-start, counting-
 use borrow.Author.Needs.{needs}
 use Rattle.writer.proofs.windows.put_window.Statement.{statement}
 use Rattle.writer.proofs.windows.put_window.Tie as tie
-use Rattle.writer.proofs.windows.put_window.Reads as reads
-use Rattle.writer.proofs.windows.put_window.Lts as lts
-use Rattle.writer.proofs.windows.tick_of.Reads as tick-of-reads
-use Rattle.track.proofs.putting.put_event.Reads as put-event-reads
 
 abbrev Inv-loop : tie.InvT-loop
 Inv-loop out₀ at tick a m q₀ last₀ i₀ out q last i = Putting a m tick at out₀ i last q out
@@ -16,47 +12,36 @@ Inv-loop out₀ at tick a m q₀ last₀ i₀ out q last i = Putting a m tick at
 abbrev μ-loop : tie.MeasureT-loop
 μ-loop out₀ at tick a m q₀ last₀ i₀ out q last i = m - i
 
--- src/windows.rt:50:5
 loop-holds : tie.Need-loop-holds Inv-loop μ-loop
 loop-holds c = putting-start _ _ (c .before .before .pre .0)
 
--- src/windows.rt:51:21
 mul-event : tie.Need-mul-event Inv-loop μ-loop
 mul-event c = search needs
 
--- src/windows.rt:51:21
 shared-slice-read-event : tie.Need-shared-slice-read-event Inv-loop μ-loop
 shared-slice-read-event c = search needs
 
--- src/windows.rt:52:13
 tick-of-requires : tie.Need-tick-of-requires Inv-loop μ-loop
 tick-of-requires c κs = omega (arith, counting-within (c .before .before .loop .inv .counting) (c .before .loop-test .taken))
 
--- src/windows.rt:53:40
 sub-put-event : tie.Need-sub-put-event Inv-loop μ-loop
 sub-put-event c = omega (arith, counting-on (c .before .before .before .before .loop .inv .counting) (c .before .before .before .loop-test .taken), c .before .tick-of .ensures)
 
--- src/windows.rt:53:9
 put-event-requires : tie.Need-put-event-requires Inv-loop μ-loop
 put-event-requires c κs = (omega (arith, counting-within (c .before .before .before .before .loop .inv .counting) (c .before .before .before .loop-test .taken), c .before .tick-of .ensures), omega (arith, counting-room (c .before .before .before .before .loop .inv .counting) (c .before .before .before .loop-test .taken) _ (c .before .tick-of .ensures), c .before .before .before .before .loop .inv .long, c .before .before .before .before .before .before .before .pre .1))
 
--- src/windows.rt:55:9
 add-i : tie.Need-add-i Inv-loop μ-loop
 add-i c = search needs
 
--- src/windows.rt:50:5
 loop-less : tie.Need-loop-less Inv-loop μ-loop
 loop-less c = search needs
 
--- src/windows.rt:50:5
 loop-again : tie.Need-loop-again Inv-loop μ-loop
 loop-again c = putting-more (c .before .before .before .before .before .before .before .loop .inv) (c .before .before .before .before .before .before .loop-test .taken) _ _ (c .before .before .before .before .tick-of .ensures) (c .before .before .put-event .ensures .0) (c .before .before .put-event .ensures .1)
 
--- src/windows.rt:42:1
 same-length : tie.Need-same-length Inv-loop μ-loop
 same-length c = c .before .loop .inv .long
 
--- src/windows.rt:42:1
 returns : tie.Need-returns Inv-loop μ-loop
 returns c = (counting-over (c .before .loop .inv .counting) (c .loop-test .left), putting-over (c .before .loop .inv) (c .loop-test .left))
 
