@@ -7,52 +7,54 @@ use reference::random::Random;
 use std::hint::black_box;
 use std::time::Instant;
 
-/// How many cuts a run of cuts has.
-pub const CUTS: usize = 300;
+/// The names of the rows of one recording.
+pub const NAMES: [&str; 6] = ["lay", "split", "join", "load", "write", "300 cuts"];
 
-/// What is timed.
-#[derive(Clone, Copy, PartialEq)]
+/// How many cuts a run of cuts has.
+const CUTS: usize = 300;
+
+/// What is timed at once.
+#[derive(Clone, Copy, Debug)]
 pub enum Call {
     Lay,
     Split,
     Join,
     Load,
     Write,
-    /// Cuts of random beats out of the recording, one after the other.
-    Cuts,
+    /// Takes the beats between two out of the recording.
+    Cut(u32, u32),
 }
 
 impl Call {
-    pub const ALL: [Call; 6] =
-        [Call::Lay, Call::Split, Call::Join, Call::Load, Call::Write, Call::Cuts];
+    /// What is timed for each row. A run of cuts takes random beats out of the recording, one cut after the other.
+    pub fn rows(recording: &Recording) -> [Vec<Call>; 6] {
+        let mut random = Random::new(u64::from(recording.beats));
+        let cut = |_| {
+            let second = random.below(recording.beats + 1);
+            Call::Cut(random.below(second + 1), second)
+        };
+        let cuts = (0..CUTS).map(cut).collect();
+        let [lay, split, join, load, write] =
+            [Call::Lay, Call::Split, Call::Join, Call::Load, Call::Write].map(|call| vec![call]);
+        [lay, split, join, load, write, cuts]
+    }
 
-    pub fn name(self) -> &'static str {
+    /// How many calls it makes: a cut is two splits and a join.
+    pub fn calls(self) -> usize {
         match self {
-            Call::Lay => "lay",
-            Call::Split => "split",
-            Call::Join => "join",
-            Call::Load => "load",
-            Call::Write => "write",
-            Call::Cuts => "300 cuts",
+            Call::Cut(..) => 3,
+            _ => 1,
         }
     }
 
-    /// How many calls one run of it makes: a cut is two splits and a join.
-    pub fn calls(self) -> u32 {
-        if self == Call::Cuts {
-            3 * CUTS as u32
-        } else {
-            1
-        }
-    }
-
-    /// The words that one run of it writes.
-    fn words(self, recording: &Recording) -> usize {
+    /// The shelves that it writes, each with one that it reads or whose notes it gets.
+    fn shelves(self) -> &'static [(usize, usize)] {
         match self {
-            Call::Lay | Call::Join | Call::Load => recording.shelf_words(),
-            Call::Split => 2 * recording.shelf_words(),
-            Call::Write => recording.file.len().div_ceil(4),
-            Call::Cuts => CUTS * 5 * recording.shelf_words(),
+            Call::Lay | Call::Load => &[(0, 3)],
+            Call::Split => &[(0, 1), (0, 2)],
+            Call::Join => &[(1, 3)],
+            Call::Write => &[],
+            Call::Cut(..) => &[(0, 1), (0, 2), (1, 3), (1, 4), (3, 5)],
         }
     }
 }
@@ -62,9 +64,9 @@ impl Call {
 pub enum Side {
     Proved,
     Second,
-    /// Nobody: as many words are copied.
+    /// Nobody: as many words are copied to where the call writes.
     Copy,
-    /// Nobody: as many words are set to zero.
+    /// Nobody: the words that the call writes are set to zero.
     Zeros,
 }
 
@@ -100,13 +102,13 @@ impl Place {
             (Call::Load, false) => reference::load(session, 3, &recording.file),
             (Call::Write, true) => engine::write(session, 0, output, &mut count),
             (Call::Write, false) => reference::write(session, 0, output, &mut count),
-            (Call::Cuts, _) => return cuts(recording.beats).for_each(|cut| self.cut(side, cut)),
+            (Call::Cut(first, second), _) => self.cut(side, first, second),
         };
-        assert_eq!(number, 0, "{} is accepted", call.name());
+        assert_eq!(number, 0, "{call:?} is accepted");
     }
 
-    /// Cuts the beats between two out of the recording: split at the second, split the left part at the first, join.
-    fn cut(&mut self, side: Side, [first, second]: [u32; 2]) {
+    /// Splits at the second beat, splits the left part at the first, and joins; the greatest of their numbers.
+    fn cut(&mut self, side: Side, first: u32, second: u32) -> u32 {
         let session = &mut self.session[..];
         let numbers = match side {
             Side::Proved => [
@@ -120,52 +122,38 @@ impl Place {
                 reference::join(session, 3, 2, 5),
             ],
         };
-        assert_eq!(numbers, [0; 3], "the cut is made");
+        numbers.into_iter().fold(0, u32::max)
     }
 
-    /// Copies words to behind them, or sets them to zero, shelf by shelf.
-    fn move_words(side: Side, words: usize, from: &[u32], to: &mut [u32]) {
-        let mut left = words;
-        while left > 0 {
-            let part = left.min(to.len());
+    /// Sets to zero what a call writes, or copies as many words or bytes there.
+    fn fill(&mut self, call: Call, side: Side, recording: &Recording) {
+        if let Call::Write = call {
+            let output = &mut self.output[..recording.file.len()];
             match side {
-                Side::Copy => black_box(&mut to[..part]).copy_from_slice(black_box(&from[..part])),
-                _ => black_box(&mut to[..part]).fill(0),
+                Side::Copy => black_box(output).copy_from_slice(black_box(&recording.file)),
+                _ => black_box(output).fill(0),
             }
-            left -= part;
+        }
+        let words = recording.shelf_words();
+        for &(from, to) in call.shelves() {
+            let (read, written) = self.session[4..].split_at_mut(to * words);
+            let (read, written) = (&read[from * words..][..words], &mut written[..words]);
+            match side {
+                Side::Copy => black_box(written).copy_from_slice(black_box(read)),
+                _ => black_box(written).fill(0),
+            }
         }
     }
 }
 
 /// The seconds of so many runs of a call by one side.
 pub fn time(call: Call, side: Side, runs: u32, recording: &Recording, place: &mut Place) -> f64 {
-    let words = call.words(recording);
-    let shelf = recording.shelf_words();
     let start = Instant::now();
     for _ in 0..runs {
         match side {
             Side::Proved | Side::Second => place.call(call, side, recording),
-            Side::Copy | Side::Zeros => {
-                let (from, to) = place.session[4..].split_at_mut(2 * shelf);
-                Place::move_words(side, words, from, &mut to[..2 * shelf]);
-            }
+            Side::Copy | Side::Zeros => place.fill(call, side, recording),
         }
     }
     start.elapsed().as_secs_f64() / f64::from(runs)
-}
-
-/// The random beats that a run of cuts takes out, from where to where.
-pub fn cuts(beats: u32) -> impl Iterator<Item = [u32; 2]> {
-    let mut random = Random::new(u64::from(beats));
-    (0..CUTS).map(move |_| {
-        let second = random.below(beats + 1);
-        [random.below(second + 1), second]
-    })
-}
-
-/// The seconds of one cut by one side.
-pub fn time_cut(side: Side, cut: [u32; 2], place: &mut Place) -> f64 {
-    let start = Instant::now();
-    place.cut(side, cut);
-    start.elapsed().as_secs_f64()
 }

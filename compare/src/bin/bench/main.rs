@@ -11,7 +11,7 @@ mod recording;
 mod report;
 mod row;
 
-use calls::{Call, Place};
+use calls::{Call, Place, NAMES};
 use recording::{Recording, Size};
 use row::{Row, COLUMNS};
 use std::path::Path;
@@ -29,9 +29,9 @@ fn machine() -> String {
 /// Times all calls on one recording; both sides must leave the same words.
 fn measure(size: Size, rows: &mut Vec<Row>) {
     let recording = Recording::new(size);
-    let mut places = [(); 4].map(|()| Place::new(&recording));
-    for call in Call::ALL {
-        rows.push(Row::measure(size, call, &recording, &mut places));
+    let mut places = [(); 3].map(|()| Place::new(&recording));
+    for (name, calls) in NAMES.into_iter().zip(Call::rows(&recording)) {
+        rows.push(Row::measure(size, name, &calls, &recording, &mut places));
         if let Some(row) = rows.last() {
             println!("{}", report::line(&row.cells(rows)));
         }

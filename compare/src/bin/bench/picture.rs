@@ -1,7 +1,7 @@
 //! The table as a picture: for each call the nanoseconds for each note over
 //! the number of notes, both on logarithmic axes, in shelves without spare words.
 
-use crate::calls::Call;
+use crate::calls::NAMES;
 use crate::row::Row;
 use std::fmt::Write;
 
@@ -30,10 +30,10 @@ fn place(notes: f64, time: f64) -> (f64, f64) {
 }
 
 /// One curve: the points of a call in so many lanes.
-fn curve(rows: &[Row], call: Call, line: (u32, bool, &str, &str)) -> String {
+fn curve(rows: &[Row], name: &str, line: (u32, bool, &str, &str)) -> String {
     let (lanes, proved, colour, dash) = line;
     let of_line =
-        rows.iter().filter(|row| row.call == call && row.size.lanes == lanes && !row.size.wide);
+        rows.iter().filter(|row| row.name == name && row.size.lanes == lanes && !row.size.wide);
     let points: Vec<String> = of_line
         .map(|row| {
             let time = if proved { row.proved } else { row.second };
@@ -75,12 +75,12 @@ fn legend(y: f64) -> String {
 pub fn picture(rows: &[Row]) -> String {
     let (width, height) = (3.0 * PANEL[0], 2.0 * PANEL[1] + 30.0);
     let mut text = format!("<svg xmlns=\"http://www.w3.org/2000/svg\" viewBox=\"0 0 {width} {height}\" font-family=\"sans-serif\" font-size=\"11\" fill=\"#222\">\n<title>Nanoseconds for each note</title>\n<desc>For each call the time for each note from 100 to 100,000 notes, of the proved code and of the second implementation.</desc>\n<rect width=\"{width}\" height=\"{height}\" fill=\"#fff\"/>\n");
-    for (which, call) in Call::ALL.into_iter().enumerate() {
+    for (which, name) in NAMES.into_iter().enumerate() {
         let (x, y) = ((which % 3) as f64 * PANEL[0], (which / 3) as f64 * PANEL[1]);
-        let _ = writeln!(text, "<g transform=\"translate({x} {y})\"><text x=\"{LEFT}\" y=\"18\" font-weight=\"bold\">{} (ns/note)</text>", call.name());
+        let _ = writeln!(text, "<g transform=\"translate({x} {y})\"><text x=\"{LEFT}\" y=\"18\" font-weight=\"bold\">{name} (ns/note)</text>");
         text.push_str(&axes());
         for line in LINES {
-            text.push_str(&curve(rows, call, line));
+            text.push_str(&curve(rows, name, line));
         }
         text.push_str("</g>\n");
     }

@@ -1,6 +1,6 @@
 //! The table as text for the terminal, and as the document.
 
-use crate::calls::Call;
+use crate::calls::NAMES;
 use crate::row::{Row, COLUMNS};
 use std::fmt::Write;
 
@@ -15,8 +15,8 @@ pub fn line<T: AsRef<str>>(cells: &[T]) -> String {
 }
 
 /// The least and the greatest ratio of a call from 1,000 notes on.
-fn ratios(rows: &[Row], call: Call) -> (f64, f64) {
-    let of_call = rows.iter().filter(|row| row.call == call && row.size.notes >= 1_000);
+fn ratios(rows: &[Row], name: &str) -> (f64, f64) {
+    let of_call = rows.iter().filter(|row| row.name == name && row.size.notes >= 1_000);
     of_call.fold((f64::MAX, 0.0), |(low, high), row| (low.min(row.ratio()), row.ratio().max(high)))
 }
 
@@ -27,9 +27,9 @@ pub fn document(rows: &[Row], machine: &str) -> String {
     writeln!(text, "Measured on {machine}.\n").expect("a string takes all");
     text.push_str("![nanoseconds for each note](pictures/benchmark.svg)\n\n");
     text.push_str("| Call | least ratio | greatest ratio |\n|---|---:|---:|\n");
-    for call in Call::ALL {
-        let (low, high) = ratios(rows, call);
-        writeln!(text, "| {} | {low:.2} | {high:.2} |", call.name()).expect("a string takes all");
+    for name in NAMES {
+        let (low, high) = ratios(rows, name);
+        writeln!(text, "| {name} | {low:.2} | {high:.2} |").expect("a string takes all");
     }
     text.push_str(TABLE);
     writeln!(text, "| {} |", COLUMNS.join(" | ")).expect("a string takes all");
@@ -43,8 +43,8 @@ pub fn document(rows: &[Row], machine: &str) -> String {
 const HEAD: &str = "# Benchmark
 
 `make bench` times the proved calls against the second implementation of `reference/`, which puts the same questions
-and is compiled at its best. Both get the same words in the same memory in turn, in one run, and the best time of each
-counts. It prints the table and writes this page and its picture anew.
+and is compiled at its best, and against `memcpy` and `memset`. All four work in the same memory, in turn, in one run,
+and the best time of each counts. It prints the table and writes this page and its picture anew.
 
 A recording has so many notes in so many lanes, 480 ticks to the beat, notes of a tick to a beat with rests between
 them. W is tight, just what the recording takes, or the most that a shelf may have, 1,048,576 words. Split cuts the
@@ -53,7 +53,7 @@ recording: two splits and a join, given here for one of the 900 calls; of each c
 
 - ratio: the proved call's time over the second implementation's
 - growth: the proved call's time for each note over that at 1,000 notes
-- × copy, × zeros: the proved call's time over that of `memcpy` and `memset` of as many words as it writes
+- × copy, × zeros: the proved call's time over that of `memcpy` and `memset` of all the words or bytes that it writes
 
 ";
 
