@@ -137,6 +137,22 @@ static void the_example(void)
     host_free(&host);
 }
 
+static void unsound_shelf(void)
+{
+    struct Host host = host_new();
+    uint32_t *s = host.session;
+    check(take_open(s, WORDS, 10, 3, SHELVES, SHELF_WORDS) == ZIKOREWI_DONE, "open");
+    check(take_lay(s, WORDS, 0, 2, ONE_NOTE, 4) == ZIKOREWI_DONE, "lay");
+    shelf(&host, 1)[1] = 7;
+    REFUSED(&host, ZIKOREWI_UNSOUND, take_split(s, WORDS, 1, 0, 2, 3));
+    REFUSED(&host, ZIKOREWI_UNSOUND, take_join(s, WORDS, 0, 1, 2));
+    host.count = 5;
+    REFUSED(&host, ZIKOREWI_UNSOUND, take_write(s, WORDS, 1, host.output, ROOM, &host.count));
+    check(host.count == 0, "a refused write counts 0");
+    check(guarded(&host), "guards");
+    host_free(&host);
+}
+
 static void refusals(void)
 {
     struct Host host = host_new();
@@ -157,11 +173,6 @@ static void refusals(void)
     REFUSED(&host, ZIKOREWI_LIST, take_lay(s, WORDS, 1, 2, wrong, 4));
     REFUSED(&host, ZIKOREWI_LIST, take_lay(s, WORDS, 1, 2, ONE_NOTE, 3));
     REFUSED(&host, ZIKOREWI_SHELF_ROOM, take_lay(s, WORDS, 1, 10, long_note, 4));
-    shelf(&host, 1)[1] = 7;
-    REFUSED(&host, ZIKOREWI_UNSOUND, take_split(s, WORDS, 1, 0, 2, 3));
-    REFUSED(&host, ZIKOREWI_UNSOUND, take_join(s, WORDS, 0, 1, 2));
-    REFUSED(&host, ZIKOREWI_UNSOUND, take_write(s, WORDS, 1, host.output, ROOM, &host.count));
-    check(host.count == 0, "a refused write counts 0");
     REFUSED(&host, ZIKOREWI_OUTPUT_ROOM, take_write(s, WORDS, 0, host.output, 33, &host.count));
     REFUSED(&host, ZIKOREWI_OUTPUT_ROOM, take_write(s, WORDS, 0, NULL, 0, &host.count));
     check(guarded(&host), "guards");
@@ -207,6 +218,7 @@ static void damaged_files(void)
 int main(void)
 {
     the_example();
+    unsound_shelf();
     refusals();
     damaged_files();
     printf("%u passed, %u failed\n", passed, failed);

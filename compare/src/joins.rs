@@ -55,8 +55,19 @@ pub fn long_list(random: &mut Random, counts: &mut Counts) -> Result<(), String>
     let (shelves, shelf_words) = (random.between(3, 12), random.between(30, 600));
     let mut pair = fresh(random, shelves, shelf_words, counts)?;
     let sizes = Sizes { most_beats: 6, most_lanes: 3, odd: 30 };
-    for _ in 0..400 {
-        let call = calls::next(random, &pair.second, &sizes);
+    perform_some(random, &mut pair, 400, &sizes, counts)
+}
+
+/// So many random calls.
+fn perform_some(
+    random: &mut Random,
+    pair: &mut Pair,
+    calls: u32,
+    sizes: &Sizes,
+    counts: &mut Counts,
+) -> Result<(), String> {
+    for _ in 0..calls {
+        let call = calls::next(random, &pair.second, sizes);
         pair.perform(&call, counts)?;
     }
     Ok(())
@@ -67,32 +78,32 @@ pub fn long_list(random: &mut Random, counts: &mut Counts) -> Result<(), String>
 pub fn just_fitting(random: &mut Random, counts: &mut Counts) -> Result<(), String> {
     let mut pair = fresh(random, 6, 900, counts)?;
     let sizes = Sizes { most_beats: 4, most_lanes: 3, odd: 1000 };
-    for _ in 0..16 {
-        let call = calls::next(random, &pair.second, &sizes);
-        pair.perform(&call, counts)?;
-    }
+    perform_some(random, &mut pair, 16, &sizes, counts)?;
     let takes = [random.below(6), random.below(6)];
     let result = (0..6).find(|shelf| !takes.contains(shelf)).unwrap_or(0);
     if pair.join(takes[0], takes[1], result, counts)? != 0 {
         return Ok(());
     }
     let [first, second, joined] = [takes[0], takes[1], result].map(|shelf| pair.shelf(shelf));
-    let used = |shelf: &[u32]| (3 + 4 * shelf[1] + 6 * shelf[2]) as usize;
-    let least = used(first).max(used(second));
-    for (words, number) in [(used(joined), 0), (used(joined) - 1, 8)] {
-        if words < least.max(3) {
-            continue;
-        }
+    let [first_used, second_used, used] = [first, second, joined].map(|shelf| used(shelf) as usize);
+    let least = first_used.max(second_used).max(3);
+    let holds_both = |&(words, _): &(usize, u32)| words >= least;
+    for (words, number) in [(used, 0), (used - 1, 8)].into_iter().filter(holds_both) {
         let header = [pair.second[0], pair.second[1], 3, words as u32];
         let mut small = Pair::new(inputs::words(random, 4 + 3 * words));
         small.open(header, counts)?;
         small.put_shelf(0, &first[..words]);
         small.put_shelf(1, &second[..words]);
         if small.join(0, 1, 2, counts)? != number {
-            return Err(format!("join of {} words in {words}: not {number}", used(joined)));
+            return Err(format!("join of {used} words in {words}: not {number}"));
         }
     }
     Ok(())
+}
+
+/// The words that a shelf's counts take.
+fn used(shelf: &[u32]) -> u64 {
+    3 + 4 * u64::from(shelf[1]) + 6 * u64::from(shelf[2])
 }
 
 /// A shelf of freely chosen cells and the notes that the rules give from them.
@@ -121,8 +132,7 @@ pub fn free_takes(random: &mut Random, counts: &mut Counts) -> Result<(), String
 
 /// Changes a word of a shelf a little or altogether, mostly one that is used.
 fn damage(random: &mut Random, words: &mut [u32]) {
-    let used = 3 + 4 * u64::from(words[1]) + 6 * u64::from(words[2]);
-    let near = used.min(words.len() as u64) as u32;
+    let near = used(words).min(words.len() as u64) as u32;
     let place = match random.one_in(12) {
         true => random.below(words.len() as u32),
         false => random.below(near),
@@ -135,7 +145,19 @@ fn damage(random: &mut Random, words: &mut [u32]) {
     };
 }
 
-/// Shelves with one or two words changed, joined as first, second and both:
+/// Leaves a cell out, if there is one.
+fn leave_out_cell(random: &mut Random, words: &mut [u32]) {
+    let (used, all) = (used(words), words.len());
+    if words[2] == 0 || used > all as u64 {
+        return;
+    }
+    let cell = used as usize - 6 * random.between(1, words[2]) as usize;
+    words.copy_within(cell + 6.., cell);
+    words[all - 6..].fill(0);
+    words[2] -= 1;
+}
+
+/// Shelves with one or two words changed, or without a cell, joined as first, second and both:
 /// refused with 4 where the plain rules find a clause broken, and only there.
 pub fn broken_shelves(
     random: &mut Random,
@@ -148,8 +170,9 @@ pub fn broken_shelves(
     let whole = pair.shelf(1).to_vec();
     for _ in 0..6 {
         let mut words = whole.clone();
-        for _ in 0..random.between(1, 2) {
-            damage(random, &mut words);
+        match random.below(8) {
+            0 => leave_out_cell(random, &mut words),
+            changes => (0..=changes % 2).for_each(|_| damage(random, &mut words)),
         }
         let clauses = broken(&words, &measures(&pair.second));
         pair.put_shelf(1, &words);

@@ -87,6 +87,22 @@ fn cut(random: &mut Random, pair: &mut Pair, kind: u32, counts: &mut Counts) -> 
     Ok(())
 }
 
+/// The same with any word of the session damaged, which is put right again.
+fn cut_damaged(
+    random: &mut Random,
+    pair: &mut Pair,
+    kind: u32,
+    counts: &mut Counts,
+) -> Result<(), String> {
+    let header = std::array::from_fn(|place| pair.second[place]);
+    let place = inputs::place(random, header);
+    let word = pair.second[place];
+    pair.set(place, inputs::damaged(random, word));
+    cut(random, pair, kind, counts)?;
+    pair.set(place, word);
+    Ok(())
+}
+
 /// Lays, joins and splits in one session, any of its words damaged now and
 /// then for one join or split.
 fn cuts(random: &mut Random, counts: &mut Counts) -> Result<(), String> {
@@ -102,23 +118,14 @@ fn cuts(random: &mut Random, counts: &mut Counts) -> Result<(), String> {
                 let list = inputs::list(random, header, beats);
                 pair.lay(random.below(5), beats, &list, counts)?;
             }
-            kind => {
-                let place = inputs::place(random, header);
-                let damaged = random.one_in(4).then(|| pair.second[place]);
-                if let Some(word) = damaged {
-                    pair.set(place, inputs::damaged(random, word));
-                }
-                cut(random, &mut pair, kind, counts)?;
-                if let Some(word) = damaged {
-                    pair.set(place, word);
-                }
-            }
+            kind if random.one_in(4) => cut_damaged(random, &mut pair, kind, counts)?,
+            kind => cut(random, &mut pair, kind, counts)?,
         }
     }
     Ok(())
 }
 
-/// One round of each kind; the long lists of calls in every fiftieth.
+/// One round of each kind; the long ones now and then.
 fn one_round(round: u64, counts: &mut Counts, seen: &mut Broken) -> Result<(), String> {
     let random = &mut Random::new(round);
     any_session(random, counts)?;
@@ -133,15 +140,20 @@ fn one_round(round: u64, counts: &mut Counts, seen: &mut Broken) -> Result<(), S
     loads::any_bytes(random, counts)?;
     writes::around_the_length(random, counts)?;
     writes::damaged(random, counts)?;
-    if round % 500 == 0 {
+    long_round(round, random, counts)
+}
+
+/// The long lists of calls in every fiftieth round, the largest takes more rarely.
+fn long_round(round: u64, random: &mut Random, counts: &mut Counts) -> Result<(), String> {
+    if round.is_multiple_of(500) {
         loads::each_number(random, counts)?;
         loads::at_the_limits(random, counts)?;
         writes::at_the_limits(random, counts)?;
     }
-    if round % 5_000 == 0 {
+    if round.is_multiple_of(5_000) {
         loads::large(random, counts)?;
     }
-    if round % 50 == 0 {
+    if round.is_multiple_of(50) {
         loads::cut_off(random, counts)?;
         joins::long_list(random, counts)?;
         writes::many_notes(random, counts)?;
@@ -170,6 +182,16 @@ fn has_met_all(counts: &Counts, seen: &Broken) -> bool {
         && seen.alone.len() == CLAUSES
 }
 
+/// Prints what was met.
+fn report(counts: &Counts, seen: &Broken) {
+    let Counts { open, lay, split, join, load, write } = counts;
+    let beats = open.iter().chain(lay).chain(split).chain(join);
+    let calls: u64 = beats.chain(load).chain(write).sum();
+    println!("{calls} calls agree; by number: open {open:?}, lay {lay:?}, split {split:?}, join {join:?}, load {load:?}, write {write:?}");
+    let (alone, pairs) = (seen.alone.len(), seen.pairs.len());
+    println!("joins refused for {alone} clauses broken alone and {pairs} pairs of them");
+}
+
 fn main() -> ExitCode {
     let rounds = match std::env::args().nth(1).map(|word| word.parse()) {
         None => ROUNDS,
@@ -185,12 +207,7 @@ fn main() -> ExitCode {
             ExitCode::FAILURE
         }
         Ok((counts, seen)) => {
-            let Counts { open, lay, split, join, load, write } = counts;
-            let beats = open.iter().chain(&lay).chain(&split).chain(&join);
-            let calls: u64 = beats.chain(&load).chain(&write).sum();
-            println!("{calls} calls agree; by number: open {open:?}, lay {lay:?}, split {split:?}, join {join:?}, load {load:?}, write {write:?}");
-            let (alone, pairs) = (seen.alone.len(), seen.pairs.len());
-            println!("joins refused for {alone} clauses broken alone and {pairs} pairs of them");
+            report(&counts, &seen);
             ExitCode::SUCCESS
         }
         Err(what) => {

@@ -85,8 +85,7 @@ pub fn at_the_limits(random: &mut Random, counts: &mut Counts) -> Result<(), Str
 
 /// Thousands of notes in few lanes or in all, close together, or thick and thin
 /// by turns: notes follow at once, or after rests of up to so many ticks.
-pub fn many_notes(random: &mut Random, counts: &mut Counts) -> Result<(), String> {
-    let delta = random.pick(&[40, 480, 32_767]);
+fn long_list(random: &mut Random, delta: u32) -> Vec<u32> {
     let last = 4_096 * delta;
     let lanes = random.pick(&[1, 7, 88, 700, 2_048]);
     let rests: &[u32] = if random.one_in(2) { &[1, 2, 3, 30] } else { &[1, 3, 30, 3_000, 100_000] };
@@ -102,6 +101,13 @@ pub fn many_notes(random: &mut Random, counts: &mut Counts) -> Result<(), String
             }
         }
     }
+    list
+}
+
+/// A long list, laid and written.
+pub fn many_notes(random: &mut Random, counts: &mut Counts) -> Result<(), String> {
+    let delta = random.pick(&[40, 480, 32_767]);
+    let list = long_list(random, delta);
     let latest = list.chunks(4).map(|note| note[2]).max().unwrap_or(0);
     let words = inputs::words_used(delta, &list);
     if words > 1_048_576 {

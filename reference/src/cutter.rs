@@ -17,26 +17,30 @@ const MALFORMED: u8 = 0xFF;
 pub struct Cutter {
     session: Vec<u32>,
     output: Vec<u8>,
+    /// Room for the last answer.
+    answer: Vec<u8>,
 }
 
 impl Default for Cutter {
     fn default() -> Self {
-        Cutter { session: Vec::new(), output: vec![0; OUTPUT_BYTES] }
+        Cutter { session: Vec::new(), output: vec![0; OUTPUT_BYTES], answer: Vec::new() }
     }
 }
 
 impl Cutter {
-    /// Puts the answer to one line, with its line feed.
-    pub fn answer(&mut self, line: &[u8], answers: &mut Vec<u8>) {
+    /// The answer to one line, with its line feed.
+    pub fn answer(&mut self, line: &[u8]) -> &[u8] {
+        self.answer.clear();
         match parse(line) {
-            None => put_hexadecimal(answers, &[MALFORMED]),
+            None => put_hexadecimal(&mut self.answer, &[MALFORMED]),
             Some(call) => {
                 let (number, count) = self.perform(&call);
-                put_hexadecimal(answers, &[number as u8]);
-                put_hexadecimal(answers, &self.output[..count as usize]);
+                put_hexadecimal(&mut self.answer, &[number as u8]);
+                put_hexadecimal(&mut self.answer, &self.output[..count as usize]);
             }
         }
-        answers.push(b'\n');
+        self.answer.push(b'\n');
+        &self.answer
     }
 
     /// Carries a call out; gives its number and the bytes written.
@@ -72,7 +76,6 @@ impl Cutter {
 pub fn run(mut input: impl BufRead, mut output: impl Write) -> io::Result<()> {
     let mut cutter = Cutter::default();
     let mut line = Vec::with_capacity(MOST_DIGITS + 1);
-    let mut answers = Vec::new();
     loop {
         let part = input.fill_buf()?;
         if part.is_empty() {
@@ -84,15 +87,12 @@ pub fn run(mut input: impl BufRead, mut output: impl Write) -> io::Result<()> {
         let passed = end.map_or(part.len(), |end| end + 1);
         input.consume(passed);
         if end.is_some() {
-            cutter.answer(&line, &mut answers);
-            output.write_all(&answers)?;
+            output.write_all(cutter.answer(&line))?;
             line.clear();
-            answers.clear();
         }
     }
     if !line.is_empty() {
-        cutter.answer(&line, &mut answers);
-        output.write_all(&answers)?;
+        output.write_all(cutter.answer(&line))?;
     }
     output.flush()
 }

@@ -22,7 +22,12 @@ pub fn parse(line: &[u8]) -> Option<Call> {
     if !rest.is_empty() {
         return None;
     }
-    match (call, words.as_slice()) {
+    call_of(call, &words)
+}
+
+/// The call of a number and its arguments' words.
+fn call_of(call: u8, words: &[u32]) -> Option<Call> {
+    match (call, words) {
         (1, &[delta, epsilon, shelves, shelf_words]) => {
             Some(Call::Open { delta, epsilon, shelves, shelf_words })
         }

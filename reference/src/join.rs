@@ -8,6 +8,8 @@ use crate::cell::{bound, place, place_of, stands_alone, Cell, Note};
 use crate::header::{self, Header, MOST_BEATS};
 use crate::shelf::{self, Take};
 use crate::{question, sound};
+use std::iter::Peekable;
+use std::slice::Iter;
 
 /// Joins two takes, which may be one shelf, into another shelf.
 pub fn join(session: &mut [u32], first: u32, second: u32, result: u32) -> u32 {
@@ -96,6 +98,14 @@ fn find_ties(first: &Take, second: &Take, epsilon: u32) -> Vec<Tie> {
     ties
 }
 
+/// The first lane in which a note or a tie is left.
+#[inline]
+fn next_lane(notes: [&mut Peekable<Iter<Note>>; 2], ties: &mut Peekable<Iter<Tie>>) -> Option<u32> {
+    let [first, second] = notes.map(|notes| notes.peek().map(|note| note[0]));
+    let tie = ties.peek().map(|tie| tie.closing[0]);
+    [first, second, tie].into_iter().flatten().min()
+}
+
 /// Writes the result's notes: lane by lane the first take's, the tie at the
 /// seam, and the second take's.
 fn join_notes(first: &[Note], second: &[Note], ties: &[Tie], seam: u32, room: &mut [Note]) {
@@ -107,15 +117,7 @@ fn join_notes(first: &[Note], second: &[Note], ties: &[Tie], seam: u32, room: &m
     };
     let (mut first, mut second) = (first.iter().peekable(), second.iter().peekable());
     let mut ties = ties.iter().peekable();
-    loop {
-        let lanes = [
-            first.peek().map(|note| note[0]),
-            second.peek().map(|note| note[0]),
-            ties.peek().map(|tie| tie.closing[0]),
-        ];
-        let Some(lane) = lanes.into_iter().flatten().min() else {
-            return;
-        };
+    while let Some(lane) = next_lane([&mut first, &mut second], &mut ties) {
         let tie = ties.next_if(|tie| tie.closing[0] == lane);
         let ends_at_seam = |note: &&Note| tie.is_some_and(|tie| tie.first_shown) && note[2] == seam;
         while let Some(note) = first.next_if(|note| note[0] == lane && !ends_at_seam(note)) {

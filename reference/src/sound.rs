@@ -73,12 +73,9 @@ fn notes_sound(take: &Take, header: &Header) -> bool {
         if !note_in_range(note, end_tick) || !in_order(&last, note) {
             return false;
         }
-        let beat = note[1] / header.delta;
-        let line = beat * header.delta;
-        let inside = note[1] > line && note[2] < line + header.delta;
-        let right = match inside {
-            true => keeps_clear(note, beat, header.delta, &mut beside),
-            false => runs.next().as_ref() == Some(note),
+        let right = match beat_inside(note, header.delta) {
+            Some(beat) => keeps_clear(note, beat, header.delta, &mut beside),
+            None => runs.next().as_ref() == Some(note),
         };
         if !right {
             return false;
@@ -90,6 +87,14 @@ fn notes_sound(take: &Take, header: &Header) -> bool {
         last = *note;
     }
     runs.next().is_none()
+}
+
+/// The beat of a note that touches no line.
+#[inline]
+fn beat_inside(note: &Note, delta: u32) -> Option<u32> {
+    let beat = note[1] / delta;
+    let line = beat * delta;
+    (note[1] > line && note[2] < line + delta).then_some(beat)
 }
 
 /// Lane, ticks and velocity in range.

@@ -148,6 +148,10 @@ fn the_end_of_track() {
     // Sounding notes end at the end's tick, not at the last line.
     let sounding = loaded(&with_track(&[5, 0x90, 60, 9, 8, 0xFF, 0x2F, 0]));
     assert_eq!(sounding, Ok((2, vec![[60, 5, 13, 9]])));
+}
+
+#[test]
+fn a_wrong_end_of_track() {
     for track in [
         &[][..],
         &[0],
@@ -223,17 +227,20 @@ fn headers() {
     {
         assert_eq!(changed(place, byte), Err(10), "byte {place} is {byte}");
     }
-    // The excess of a longer header is passed over.
+    // A header as long as the file: no chunk follows.
+    assert_eq!(changed(7, 18), Err(11));
+}
+
+#[test]
+fn the_excess_of_a_longer_header_is_passed_over() {
     for excess in 0..4 {
-        let mut file = right.clone();
+        let mut file = with_track(&[0, 0xFF, 0x2F, 0]);
         file[7] += excess;
         for _ in 0..excess {
             file.insert(14, 0x4D);
         }
         assert_eq!(loaded(&file), Ok((0, vec![])), "{excess} more");
     }
-    // A header as long as the file: no chunk follows.
-    assert_eq!(changed(7, 18), Err(11));
 }
 
 #[test]

@@ -236,9 +236,8 @@ fn random_frames_against_the_literal_calls() {
     for seed in 0..20 {
         let mut cutter = Cutter::default();
         for (place, line) in Frames::new(seed).take(600).enumerate() {
-            let mut answer = Vec::new();
             let session = cutter.session().to_vec();
-            cutter.answer(&line, &mut answer);
+            let answer = cutter.answer(&line).to_vec();
             let expected = match parse(&line) {
                 None => "FF\n".to_owned(),
                 Some(Call::Open { .. }) => continue,

@@ -52,17 +52,21 @@ fn assert_whole_recordings(machine: &Machine, session: &[u32], context: &str) ->
     found
 }
 
+fn some_sizes(random: &mut Random) -> Sizes {
+    Sizes {
+        most_beats: random.pick(&[2, 4, 7]),
+        most_lanes: random.pick(&[1, 2, 4]),
+        odd: random.pick(&[8, 20]),
+    }
+}
+
 #[test]
 fn random_lists_of_calls() {
     let mut counts = [0u32; 16];
     let mut whole = 0;
     for seed in 0..5000 {
         let mut random = Random::new(seed);
-        let sizes = Sizes {
-            most_beats: random.pick(&[2, 4, 7]),
-            most_lanes: random.pick(&[1, 2, 4]),
-            odd: random.pick(&[8, 20]),
-        };
+        let sizes = some_sizes(&mut random);
         let (mut session, mut machine) = opened(&calls::open(&mut random, 2500));
         let mut output = vec![0xA5; random.pick(&[40, 100, 600])];
         for step in 0..50 {
@@ -158,6 +162,14 @@ fn cut_into_beats_and_joined_in_any_order() {
     }
 }
 
+/// A call that is accepted, and the words that the histories then give.
+fn follow_accepted(call: &Call, session: &mut [u32], machine: &mut Machine, context: &str) {
+    let (number, _) = perform(call, session, &mut []);
+    assert_eq!(number, 0, "{context}, {call:?}");
+    machine.follow(call, number);
+    assert_histories(machine, session, context);
+}
+
 #[test]
 fn all_lanes() {
     for seed in 0..6 {
@@ -175,12 +187,9 @@ fn all_lanes() {
             Call::Split { take: 4, beat: 1, left: 1, right: 2 },
             Call::Join { first: 2, second: 2, result: 4 },
         ];
+        let context = format!("seed {seed}, all lanes");
         for call in &calls {
-            let (number, _) = perform(call, &mut session, &mut []);
-            let context = format!("seed {seed}, all lanes");
-            assert_eq!(number, 0, "{context}, {call:?}");
-            machine.follow(call, number);
-            assert_histories(&machine, &session, &context);
+            follow_accepted(call, &mut session, &mut machine, &context);
             let occurring = common::cells(&session, 0).chunk_by(|a, b| a[0] == b[0]).count();
             assert!(occurring > 1700, "{context}: {occurring} lanes");
         }
@@ -206,10 +215,7 @@ fn takes_of_4096_beats() {
             Call::Split { take: 0, beat: 4096, left: 1, right: 2 },
         ];
         for call in &calls {
-            let (number, _) = perform(call, &mut session, &mut []);
-            assert_eq!(number, 0, "seed {seed}, {call:?}");
-            machine.follow(call, number);
-            assert_histories(&machine, &session, &format!("seed {seed}, 4096 beats"));
+            follow_accepted(call, &mut session, &mut machine, &format!("seed {seed}, 4096 beats"));
         }
         let too_long = Call::Join { first: 1, second: 3, result: 2 };
         assert_eq!(perform(&too_long, &mut session, &mut []).0, 6, "seed {seed}");

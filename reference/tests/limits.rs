@@ -14,22 +14,33 @@ fn check(name: &str, mut session: Vec<u32>, call: Call, expected: u32) {
     assert!(number == 0 || session == before, "{name}: {call:?}");
 }
 
+/// A list laid in an empty shelf.
+fn check_lay(name: &str, beats: u32, notes: &[u32], expected: u32) {
+    let call = Call::Lay { shelf: 2, beats, notes: notes.to_vec() };
+    check(name, fresh(10, 3, 4, 90), call, expected);
+}
+
+/// A list of two notes.
+fn check_second(name: &str, second: [u32; 4], expected: u32) {
+    check_lay(name, 2, &[&[60, 4, 10, 100], &second[..]].concat(), expected);
+}
+
 #[test]
 fn lay_lists() {
-    let lay = |name: &str, beats: u32, notes: &[u32], expected: u32| {
-        let call = Call::Lay { shelf: 2, beats, notes: notes.to_vec() };
-        check(name, fresh(10, 3, 4, 90), call, expected);
-    };
-    lay("empty list", 0, &[], 0);
-    lay("empty list", 4096, &[], 0);
-    lay("too many beats", 4097, &[], 6);
-    lay("too many beats", u32::MAX, &[1], 6);
-    let two = |name: &str, second: [u32; 4], expected: u32| {
-        lay(name, 2, &[&[60, 4, 10, 100], &second[..]].concat(), expected);
-    };
+    check_lay("empty list", 0, &[], 0);
+    check_lay("empty list", 4096, &[], 0);
+    check_lay("too many beats", 4097, &[], 6);
+    check_lay("too many beats", u32::MAX, &[1], 6);
     for second in [[60, 10, 20, 1], [60, 11, 12, 127], [61, 0, 20, 5], [2047, 3, 4, 5]] {
-        two("legal", second, 0);
+        check_second("legal", second, 0);
     }
+    for extra in 1..4 {
+        check_lay("no whole note", 2, &[60, 4, 10, 100, 61, 4, 10][..4 + extra], 7);
+    }
+}
+
+#[test]
+fn illegal_notes_in_a_list() {
     for second in [
         [60, 9, 20, 1],
         [60, 4, 10, 100],
@@ -44,10 +55,7 @@ fn lay_lists() {
         [61, 10, 20, 0],
         [61, 10, 20, 128],
     ] {
-        two("illegal", second, 7);
-    }
-    for extra in 1..4 {
-        lay("no whole note", 2, &[60, 4, 10, 100, 61, 4, 10][..4 + extra], 7);
+        check_second("illegal", second, 7);
     }
 }
 
@@ -72,6 +80,14 @@ fn results_that_just_fit() {
     }
 }
 
+/// Two shelves of the given words, joined.
+fn check_join(name: &str, words: u32, first: &[u32], second: &[u32], expected: u32) {
+    let mut session = fresh(10, 3, 4, words);
+    shelf_mut(&mut session, 1)[..first.len()].copy_from_slice(first);
+    shelf_mut(&mut session, 2)[..second.len()].copy_from_slice(second);
+    check(name, session, Call::Join { first: 1, second: 2, result: 3 }, expected);
+}
+
 #[test]
 fn joins_that_just_fit() {
     // Hidden halves of 9 words each: the join of both adds a note.
@@ -84,20 +100,13 @@ fn joins_that_just_fit() {
     }
     // Written by hand, because a lay of the whole note would not fit.
     for (words, expected) in [(18, 8), (19, 0)] {
-        let mut session = fresh(10, 3, 4, words);
-        shelf_mut(&mut session, 1)[..9].copy_from_slice(&[1, 0, 1, 60, 0, 1, 2, 2, 100]);
-        shelf_mut(&mut session, 2)[..9].copy_from_slice(&[1, 0, 1, 60, 0, 0, 2, 2, 100]);
-        let call = Call::Join { first: 1, second: 2, result: 3 };
-        check("hidden halves", session, call, expected);
+        let (left, right) = ([1, 0, 1, 60, 0, 1, 2, 2, 100], [1, 0, 1, 60, 0, 0, 2, 2, 100]);
+        check_join("hidden halves", words, &left, &right, expected);
     }
     // Two shown halves of 13 words become one note: 19 words, not 23.
     for (words, expected) in [(18, 8), (19, 0)] {
-        let mut session = fresh(10, 3, 4, words);
         let left = [1, 1, 1, 60, 5, 10, 100, 60, 0, 1, 5, 5, 100];
         let right = [1, 1, 1, 60, 0, 5, 100, 60, 0, 0, 5, 5, 100];
-        shelf_mut(&mut session, 1)[..13].copy_from_slice(&left);
-        shelf_mut(&mut session, 2)[..13].copy_from_slice(&right);
-        let call = Call::Join { first: 1, second: 2, result: 3 };
-        check("shown halves", session, call, expected);
+        check_join("shown halves", words, &left, &right, expected);
     }
 }

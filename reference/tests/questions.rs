@@ -78,6 +78,14 @@ fn crowd_shelf_0(situation: &mut Situation) {
     assert_eq!(lay(&mut situation.session, 0, 2, &list), 0);
 }
 
+/// The shelf, beats and list of a lay.
+fn laid(situation: &mut Situation) -> (&mut u32, &mut u32, &mut Vec<u32>) {
+    match &mut situation.call {
+        Call::Lay { shelf, beats, notes } => (shelf, beats, notes),
+        call => panic!("no lay: {call:?}"),
+    }
+}
+
 #[test]
 fn lay_asks_1_2_6_7_8() {
     let call = Call::Lay { shelf: 2, beats: 2, notes: vec![60, 8, 12, 100] };
@@ -86,26 +94,10 @@ fn lay_asks_1_2_6_7_8() {
         &situation(call),
         &[
             (1, spoil_header),
-            (2, |s| {
-                if let Call::Lay { shelf, .. } = &mut s.call {
-                    *shelf = 4
-                }
-            }),
-            (6, |s| {
-                if let Call::Lay { beats, .. } = &mut s.call {
-                    *beats = 4097
-                }
-            }),
-            (7, |s| {
-                if let Call::Lay { notes, .. } = &mut s.call {
-                    notes.push(0)
-                }
-            }),
-            (8, |s| {
-                if let Call::Lay { notes, .. } = &mut s.call {
-                    *notes = (0..22).flat_map(|lane| [lane, 3, 5, 9]).collect();
-                }
-            }),
+            (2, |s| *laid(s).0 = 4),
+            (6, |s| *laid(s).1 = 4097),
+            (7, |s| laid(s).2.push(0)),
+            (8, |s| *laid(s).2 = (0..22).flat_map(|lane| [lane, 3, 5, 9]).collect()),
         ],
     );
 }
@@ -152,6 +144,14 @@ fn split_shelf_numbers() {
     }
 }
 
+/// The shelves of a join.
+fn joined(situation: &mut Situation) -> (&mut u32, &mut u32, &mut u32) {
+    match &mut situation.call {
+        Call::Join { first, second, result } => (first, second, result),
+        call => panic!("no join: {call:?}"),
+    }
+}
+
 #[test]
 fn join_asks_1_2_3_4_6_8() {
     check_all(
@@ -159,21 +159,11 @@ fn join_asks_1_2_3_4_6_8() {
         &situation(Call::Join { first: 0, second: 1, result: 2 }),
         &[
             (1, spoil_header),
-            (2, |s| {
-                if let Call::Join { second, .. } = &mut s.call {
-                    *second = u32::MAX
-                }
-            }),
-            (3, |s| {
-                if let Call::Join { result, .. } = &mut s.call {
-                    *result = 0
-                }
-            }),
+            (2, |s| *joined(s).1 = u32::MAX),
+            (3, |s| *joined(s).2 = 0),
             (4, spoil_shelf_0),
-            (6, |s| {
-                // Beats of silence behind the notes.
-                shelf_mut(&mut s.session, 0)[0] = 4095;
-            }),
+            // Beats of silence behind the notes.
+            (6, |s| shelf_mut(&mut s.session, 0)[0] = 4095),
             (8, |s| {
                 crowd_shelf_0(s);
                 s.call = Call::Join { first: 0, second: 0, result: 2 };
@@ -265,13 +255,15 @@ fn load_asks_1_2_9_10_11_12() {
     );
 }
 
+/// A load of a changed file.
+fn with(change: fn(&mut Vec<u8>)) -> Situation {
+    let mut file = small_file();
+    change(&mut file);
+    situation(Call::Load { shelf: 2, file })
+}
+
 #[test]
-fn load_asks_13_14_and_8_last() {
-    let with = |change: fn(&mut Vec<u8>)| {
-        let mut file = small_file();
-        change(&mut file);
-        situation(Call::Load { shelf: 2, file })
-    };
+fn load_asks_13_and_14() {
     // 13 and 14 alone, and each with the other and 12 in one event.
     check("13", with(|file| set_time(file, 4, 40_960)), 13);
     check("14", with(|file| file[EVENTS + 6] = 60), 14);
@@ -286,6 +278,10 @@ fn load_asks_13_14_and_8_last() {
         set_time(file, 4, 40_960);
     });
     check("12 before 13", all, 12);
+}
+
+#[test]
+fn load_asks_event_by_event() {
     // An earlier event's 13 or 14 comes before a later event's 12.
     let late_damage = with(|file| {
         file[EVENTS + 6] = 60;

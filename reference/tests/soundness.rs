@@ -224,6 +224,10 @@ fn partners() {
         lists.cells[5] = [61, 2, 0, 7, 18, 60];
         lists.cells[6] = [61, 2, 1, 17, 8, 60];
     });
+}
+
+#[test]
+fn partners_that_are_missing() {
     // The last cell of all lacks its partner.
     assert_breaks(&[Clause::OpeningPartner], |lists| {
         lists.cells.push([90, 3, 0, 0, 10, 9]);
@@ -258,6 +262,11 @@ fn notes_at_lines() {
     // A hidden piece is no note.
     assert_breaks(&clause, |lists| lists.notes.push([61, 38, 40, 50]));
     assert_breaks(&clause, |lists| lists.notes.insert(2, [61, 0, 2, 80]));
+}
+
+#[test]
+fn notes_at_lines_that_no_cells_give() {
+    let clause = [Clause::NotesAtLines];
     // Notes at lines without cells.
     assert_breaks(&clause, |lists| lists.notes.push([62, 0, 5, 50]));
     assert_breaks(&clause, |lists| lists.notes.push([62, 5, 10, 50]));

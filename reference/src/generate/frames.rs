@@ -111,6 +111,19 @@ fn written_shelves(call: &Call) -> Vec<u32> {
     }
 }
 
+/// Three in the given order, or in any.
+fn some_order(random: &mut Random, given: [u32; 3]) -> [u32; 3] {
+    let mut order = given;
+    for place in [2, 1] {
+        order.swap(place, random.below(place as u32 + 1) as usize);
+    }
+    if random.one_in(2) {
+        given
+    } else {
+        order
+    }
+}
+
 /// Calls, the last one first, that cut a take of three beats into its beats
 /// and join them in some order; in the original order it is healed. They
 /// need six shelves, and are refused where there are fewer.
@@ -118,11 +131,7 @@ fn apart_and_together(random: &mut Random, session: &[u32]) -> Vec<Call> {
     let measures = notes::Measures { delta: session[0], epsilon: session[1], beats: 3 };
     let lanes = notes::lanes(random, 4);
     let list = notes::list(random, &measures, &lanes);
-    let mut order = [1, 3, 4];
-    for place in [2, 1] {
-        order.swap(place, random.below(place as u32 + 1) as usize);
-    }
-    let [first, second, third] = if random.one_in(2) { [1, 3, 4] } else { order };
+    let [first, second, third] = some_order(random, [1, 3, 4]);
     let mut calls = vec![
         Call::Lay { shelf: 0, beats: 3, notes: list },
         Call::Split { take: 0, beat: 1, left: 1, right: 2 },

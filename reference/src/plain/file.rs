@@ -27,8 +27,8 @@ fn big_endian(bytes: &[u8]) -> usize {
     bytes.iter().fold(0, |value, &byte| value * 256 + usize::from(byte))
 }
 
-/// Where the first MTrk's events begin and end.
-fn track_place(file: &[u8], delta: u64) -> Result<(usize, usize), u32> {
+/// Where the first chunk behind a right header begins.
+fn header_end(file: &[u8], delta: u64) -> Result<usize, u32> {
     if file.len() < 8 || &file[..4] != b"MThd" {
         return Err(9);
     }
@@ -42,7 +42,12 @@ fn track_place(file: &[u8], delta: u64) -> Result<(usize, usize), u32> {
     if format != 0 || tracks != 1 || division != delta {
         return Err(10);
     }
-    let mut at = 8 + header_length;
+    Ok(8 + header_length)
+}
+
+/// Where the first MTrk's events begin and end.
+fn track_place(file: &[u8], delta: u64) -> Result<(usize, usize), u32> {
+    let mut at = header_end(file, delta)?;
     loop {
         if at + 8 > file.len() {
             return Err(11);

@@ -43,24 +43,28 @@ impl Machine {
             Call::Lay { shelf, beats, ref notes } => {
                 self.record(shelf, beats.into(), notes_of_list(notes));
             }
-            Call::Load { shelf, ref file } => {
-                let read = file::read(file, self.measures.delta);
-                let (beats, notes) = read.expect("an accepted file is read");
-                self.record(shelf, beats, notes);
-            }
+            Call::Load { shelf, ref file } => self.load(shelf, file),
             Call::Split { take, beat, left, right } => {
-                let list = self.histories[take as usize].clone();
-                let (before, behind) = list.split_at(beat as usize);
-                self.histories[left as usize] = before.to_vec();
-                self.histories[right as usize] = behind.to_vec();
+                let mut before = self.history(take).to_vec();
+                self.histories[right as usize] = before.split_off(beat as usize);
+                self.histories[left as usize] = before;
             }
             Call::Join { first, second, result } => {
-                let mut list = self.histories[first as usize].clone();
-                list.extend(self.histories[second as usize].clone());
-                self.histories[result as usize] = list;
+                self.histories[result as usize] =
+                    [self.history(first), self.history(second)].concat();
             }
             Call::Write { .. } => {}
         }
+    }
+
+    fn history(&self, shelf: u32) -> &[(usize, u64)] {
+        &self.histories[shelf as usize]
+    }
+
+    fn load(&mut self, shelf: u32, file: &[u8]) {
+        let read = file::read(file, self.measures.delta);
+        let (beats, notes) = read.expect("an accepted file is read");
+        self.record(shelf, beats, notes);
     }
 
     fn record(&mut self, shelf: u32, beats: u64, notes: Vec<Note>) {

@@ -47,26 +47,28 @@ pub fn read(shelf: &[u32]) -> Option<Take> {
     if behind_notes + 6 * cells > words.len() as u64 {
         return None;
     }
-    let note = |i: u64| {
-        let at = (3 + 4 * i) as usize;
-        Note { lane: words[at], start: words[at + 1], end: words[at + 2], velocity: words[at + 3] }
-    };
-    let cell = |i: u64| {
-        let at = (behind_notes + 6 * i) as usize;
-        Cell {
-            lane: words[at],
-            beat: words[at + 1],
-            side: words[at + 2],
-            before: words[at + 3],
-            after: words[at + 4],
-            velocity: words[at + 5],
-        }
-    };
     Some(Take {
         beats,
-        notes: (0..notes).map(note).collect(),
-        cells: (0..cells).map(cell).collect(),
+        notes: (0..notes).map(|i| note(&words[(3 + 4 * i) as usize..])).collect(),
+        cells: (0..cells).map(|i| cell(&words[(behind_notes + 6 * i) as usize..])).collect(),
     })
+}
+
+/// The note of the first words.
+fn note(words: &[u64]) -> Note {
+    Note { lane: words[0], start: words[1], end: words[2], velocity: words[3] }
+}
+
+/// The cell of the first words.
+fn cell(words: &[u64]) -> Cell {
+    Cell {
+        lane: words[0],
+        beat: words[1],
+        side: words[2],
+        before: words[3],
+        after: words[4],
+        velocity: words[5],
+    }
 }
 
 /// A sound shelf's take.
@@ -96,17 +98,26 @@ pub fn broken(shelf: &[u32], measures: &Measures) -> Vec<Clause> {
         (Clause::Memory, take.cells.iter().all(|cell| cell.before + cell.after <= 4096 * delta)),
         (Clause::EmptyPiece, take.cells.iter().all(not_empty)),
     ];
-    if clauses.iter().all(|&(clause, holds)| clause != Clause::CellRange || holds) {
-        let mut pieces = of_take(&take.notes, &take.cells, delta);
-        clauses.push((Clause::Overlap, !any_overlap(&pieces)));
-        clauses.push((Clause::OpeningPartner, openings_have_partners(&take.cells, delta)));
-        clauses.push((Clause::ClosingPartner, closings_have_partners(&take.cells, delta)));
-        pieces.retain(|piece| piece.cells().count() > 0);
-        let at_lines = take.notes.iter().filter(|note| !note.touches_no_line(delta)).copied();
-        let given = rules::notes(&pieces, measures.epsilon);
-        clauses.push((Clause::NotesAtLines, at_lines.collect::<Vec<Note>>() == given));
+    if !clauses.contains(&(Clause::CellRange, false)) {
+        clauses.extend(at_lines(&take, measures));
     }
     clauses.into_iter().filter(|&(_, holds)| !holds).map(|(clause, _)| clause).collect()
+}
+
+/// The clauses of the pieces and the notes that the cells give.
+fn at_lines(take: &Take, measures: &Measures) -> [(Clause, bool); 4] {
+    let delta = measures.delta;
+    let mut pieces = of_take(&take.notes, &take.cells, delta);
+    let apart = !any_overlap(&pieces);
+    pieces.retain(|piece| piece.cells().count() > 0);
+    let at_lines = take.notes.iter().filter(|note| !note.touches_no_line(delta)).copied();
+    let given = rules::notes(&pieces, measures.epsilon);
+    [
+        (Clause::Overlap, apart),
+        (Clause::OpeningPartner, openings_have_partners(&take.cells, delta)),
+        (Clause::ClosingPartner, closings_have_partners(&take.cells, delta)),
+        (Clause::NotesAtLines, at_lines.collect::<Vec<Note>>() == given),
+    ]
 }
 
 pub fn note_in_range(note: &Note, end: u64) -> bool {
