@@ -12,6 +12,7 @@ use Rattle.model.specs.Takes.{readNotes, readCells}
 use Rattle.model.specs.declared.Header.{Header}
 use Rattle.model.specs.declared.Cell.{Cell}
 use Rattle.laws.specs.Sweep.{earlier, skip}
+use Rattle.laws.specs.Walk.{linked}
 use Rattle.session.specs.Reading.{noteAt, cellAt, lastNotes, lastCells}
 use Rattle.session.specs.Running.{firstLinked, firstShown, fromShown, fromLast}
 use Rattle.session.proofs.Readings.{notes-cons}
@@ -60,22 +61,22 @@ module _ (l b : ℕ) (c : Cell) (cs : List Cell) where
   unfolding skip
   skip-no e = rw (e, skip)
 
-module _ (h : Header) where
-  shown-no : (cs : List Cell) (c : Cell) (ds : List Cell) → cs ≡ c ∷ ds → firstShown h cs ≡ false → fromShown h cs ≡ fromShown h ds
+module _ (h : Header) (c : Cell) (cs : List Cell) where
+  shown-no : firstShown h (c ∷ cs) ≡ false → fromShown h (c ∷ cs) ≡ fromShown h cs
   unfolding firstShown fromShown
-  shown-no cs c ds is e = rw is (rw (rw is at e, fromShown))
+  shown-no e = rw (e, fromShown)
 
-  shown-yes : (cs : List Cell) (c : Cell) (ds : List Cell) → cs ≡ c ∷ ds → firstShown h cs ≡ true → fromShown h cs ≡ cs
+  shown-yes : firstShown h (c ∷ cs) ≡ true → fromShown h (c ∷ cs) ≡ c ∷ cs
   unfolding firstShown fromShown
-  shown-yes cs c ds is e = rw is (rw (rw is at e, fromShown))
+  shown-yes e = rw (e, fromShown)
 
-  link-yes : (cs : List Cell) (c : Cell) (ds : List Cell) → cs ≡ c ∷ ds → firstLinked h cs ≡ true → fromLast h cs ≡ fromLast h ds
-  unfolding firstLinked fromLast
-  link-yes cs c ds is e = rw is (rw (rw is at e, fromLast))
+  pub link-yes : linked h c cs ≡ true → fromLast h (c ∷ cs) ≡ fromLast h cs
+  unfolding fromLast
+  link-yes e = rw (e, fromLast)
 
-  link-no : (cs : List Cell) (c : Cell) (ds : List Cell) → cs ≡ c ∷ ds → firstLinked h cs ≡ false → fromLast h cs ≡ cs
-  unfolding firstLinked fromLast
-  link-no cs c ds is e = rw is (rw (rw is at e, fromLast))
+  pub link-no : linked h c cs ≡ false → fromLast h (c ∷ cs) ≡ c ∷ cs
+  unfolding fromLast
+  link-no e = rw (e, fromLast)
 
 module _ (ws : List ℕ) (end k : ℕ) (some : 0 < k) (fits : 6 * k ≤ end) where
   pub cons : {c : Cell} → c ≡ cellAt ws (end - 6 * k) → lastCells ws end k ≡ c ∷ lastCells ws end (k - 1)
@@ -90,16 +91,18 @@ module _ (ws : List ℕ) (end k : ℕ) (some : 0 < k) (fits : 6 * k ≤ end) whe
 
   module _ (h : Header) {p : Bool} where
     pub shown-past : p ≡ firstShown h (lastCells ws end k) → p ≡ false → fromShown h (lastCells ws end (k - 1)) ≡ fromShown h (lastCells ws end k)
-    shown-past e t = sym (shown-no h _ _ _ (cons refl) (sym e ∙ t))
+    shown-past e t = rw (cons refl) (sym (shown-no h _ _ (sym (rw (cons refl) at e) ∙ t)))
 
     pub shown-stop : p ≡ firstShown h (lastCells ws end k) → p ≡ true → lastCells ws end k ≡ fromShown h (lastCells ws end k)
-    shown-stop e t = sym (shown-yes h _ _ _ (cons refl) (sym e ∙ t))
+    shown-stop e t = rw (cons refl) (sym (shown-yes h _ _ (sym (rw (cons refl) at e) ∙ t)))
 
     pub link-past : p ≡ firstLinked h (lastCells ws end k) → not p ≡ false → fromLast h (lastCells ws end (k - 1)) ≡ fromLast h (lastCells ws end k)
-    link-past e t = sym (link-yes h _ _ _ (cons refl) (sym e ∙ not-false p t))
+    unfolding firstLinked
+    link-past e t = rw (cons refl) (sym (link-yes h _ _ (sym (rw (cons refl) at e) ∙ not-false p t)))
 
     pub link-stop : p ≡ firstLinked h (lastCells ws end k) → not p ≡ true → lastCells ws end k ≡ fromLast h (lastCells ws end k)
-    link-stop e t = sym (link-no h _ _ _ (cons refl) (sym e ∙ not-true p t))
+    unfolding firstLinked
+    link-stop e t = rw (cons refl) (sym (link-no h _ _ (sym (rw (cons refl) at e) ∙ not-true p t)))
 
 module _ (ws : List ℕ) (end : ℕ) where
   pub skip-end : (l b k : ℕ) → k ≤ 0 → lastCells ws end 0 ≡ skip l b (lastCells ws end k)
