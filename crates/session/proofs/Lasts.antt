@@ -6,11 +6,12 @@ use Prim.Native.Nat.{ℕ, zero, suc, _+_, _*_, _-_, _≤_, _<_}
 use native.Mathlib.Nat.{add-zero}
 use native.Mathlib.Omega.{arith}
 use borrow.Author.Tests.{not-true, not-false}
-use lib.ListN.{drop}
+use lib.ListN.{length, drop}
 use lib.Seq.{getD-drop, drop-drop}
 use Rattle.model.specs.Takes.{readNotes, readCells}
 use Rattle.model.specs.declared.Header.{Header}
 use Rattle.model.specs.declared.Cell.{Cell}
+use Rattle.laws.specs.Reading.{length-cells}
 use Rattle.laws.specs.Sweep.{earlier, skip}
 use Rattle.laws.specs.Walk.{linked}
 use Rattle.session.specs.Reading.{noteAt, cellAt, lastNotes, lastCells}
@@ -33,6 +34,10 @@ module _ (ws : List ℕ) (end : ℕ) where
   unfolding lastCells readCells
   no-cells = refl
 
+  pub length-last : (k : ℕ) → length (lastCells ws end k) ≡ k
+  unfolding lastCells
+  length-last k = length-cells k _
+
   pub last-notes : (k : ℕ) → 0 < k → 4 * k ≤ end → lastNotes ws end k ≡ noteAt ws (end - 4 * k) ∷ lastNotes ws end (k - 1)
   unfolding lastNotes
   last-notes zero some fits = absurd (omega arith)
@@ -53,11 +58,11 @@ module _ (ws : List ℕ) (end : ℕ) where
 
 -- A search through a list: it goes past the first element, or stops at it.
 module _ (l b : ℕ) (c : Cell) (cs : List Cell) where
-  skip-yes : earlier l b c ≡ true → skip l b (c ∷ cs) ≡ skip l b cs
+  pub skip-yes : earlier l b c ≡ true → skip l b (c ∷ cs) ≡ skip l b cs
   unfolding skip
   skip-yes e = rw (e, skip)
 
-  skip-no : earlier l b c ≡ false → skip l b (c ∷ cs) ≡ c ∷ cs
+  pub skip-no : earlier l b c ≡ false → skip l b (c ∷ cs) ≡ c ∷ cs
   unfolding skip
   skip-no e = rw (e, skip)
 
