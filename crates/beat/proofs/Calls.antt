@@ -1,11 +1,11 @@
 -- Lay: the number and the words, by the way that the call goes. Assumes nothing.
 use mathlib.Core.Path.{_≡_, refl, sym, ap, _∙_}
-use mathlib.Core.Bool.{Bool, true, false, cond, and-true}
+use mathlib.Core.Bool.{Bool, true, false, cond, not, and-true}
 use mathlib.Core.List.{List, [], _∷_}
 use Prim.Native.Nat.{ℕ, zero, suc, _/_, _≤_, _<_}
 use native.Mathlib.Omega.{arith}
-use borrow.Author.Tests.{lt-ltb}
-use lib.Dec.{leb, ltb}
+use borrow.Author.Tests.{lt-ltb, eqb-false, not-true}
+use lib.Dec.{leb, ltb, eqb}
 use lib.ListN.{length}
 use Rattle.words.specs.Splice.{splice}
 use Rattle.model.specs.Limits.{maxBeats, maxDelta, maxWords}
@@ -13,9 +13,10 @@ use Rattle.model.specs.Takes.{wordsUsed, notesOf, wordsOf}
 use Rattle.model.specs.Histories.{recordingTake}
 use Rattle.model.specs.Session.{headerOf, wordsOfHeader, shelfAt, putShelf}
 use Rattle.model.specs.Machine.{Call, layCall, listed}
-use Rattle.model.specs.Questions.{headerOk, shelvesOk, beatsOk, listOk, fits, resultsFit, results, questions, firstNo, number, putAll, written, after}
+use Rattle.model.specs.Questions.{headerOk, shelvesOk, beatsOk, listOk, fits, resultsFit, results, questions, number, putAll, written, after}
 use Rattle.model.specs.declared.Header.{Header}
 use Rattle.model.proofs.Headers.{InRange, in-range}
+use Rattle.laws.specs.Accepted.{asked-in-turn}
 use Rattle.laws.specs.Healing.{notes-again}
 use Rattle.session.specs.Entering.{entryOf, entryAsked}
 use Rattle.session.specs.Listing.{cellsListed}
@@ -27,6 +28,10 @@ use Rattle.beat.specs.declared.laying.LayAnswer.the-variants.{Cells, Ref
 use Rattle.beat.proofs.Asks.{list-passed, Laid}
 
 -- ---- any call
+
+-- two shelves that a call asks to differ
+pub unlike : (i j : ℕ) → not (eqb i j) ≡ true → i ≡ j → ⊥
+unlike i j e = eqb-false i j (not-true (eqb i j) e)
 
 module _ (s : List ℕ) (c : Call) where
   pub after-refused : (q : ℕ) → q ≡ number s c → 0 < q → s ≡ after s c
@@ -65,16 +70,6 @@ asked-asks entered = let range = in-range (entered .header) in rw (entered .same
 
 -- ---- the number
 
--- five questions by their numbers
-pub five : (m n o p q : ℕ) (a b c d e : Bool) → firstNo ((m, a) ∷ (n, b) ∷ (o, c) ∷ (p, d) ∷ (q, e) ∷ []) ≡ cond a (cond b (cond c (cond d (cond e 0 q) p) o) n) m
-unfolding firstNo
-five m n o p q true true true true true = refl
-five m n o p q true true true true false = refl
-five m n o p q true true true false e = refl
-five m n o p q true true false d e = refl
-five m n o p q true false c d e = refl
-five m n o p q false b c d e = refl
-
 module _ (s : List ℕ) (i beats : ℕ) (ws : List ℕ) where
   abbrev h : Header
   h = headerOf s
@@ -96,7 +91,7 @@ module _ (s : List ℕ) (i beats : ℕ) (ws : List ℕ) where
   unfolding number questions
   number-is =
       rw (q2, q6, q8)
-      (five 1 2 6 7 8 (headerOk h (length s)) (ltb i (h .shelves)) (leb beats maxBeats) (listOk h beats ws) (fits h (recordingTake (h .delta) (listed beats ws))))
+      (asked-in-turn ((1, headerOk h (length s)) ∷ (2, ltb i (h .shelves)) ∷ (6, leb beats maxBeats) ∷ (7, listOk h beats ws) ∷ (8, fits h (recordingTake (h .delta) (listed beats ws))) ∷ []))
 
   -- ---- questions 6, 7 and 8
 

@@ -1,6 +1,6 @@
 -- Join: the number by the way that the questions go. Assumes nothing.
 use mathlib.Core.Path.{_≡_, refl, sym, ap, _∙_}
-use mathlib.Core.Bool.{Bool, true, false, cond, not, _&&_, and-true, true≢false}
+use mathlib.Core.Bool.{Bool, true, false, cond, not, _&&_, and-true}
 use mathlib.Core.List.{List, [], _∷_}
 use Prim.Native.Nat.{ℕ, _+_, _*_, _≤_, _<_}
 use native.Mathlib.Omega.{arith}
@@ -14,16 +14,17 @@ use Rattle.model.specs.Session.{headerOf, putShelf, shelf, shelfAt}
 use Rattle.model.specs.Soundness.{soundShelf}
 use Rattle.model.specs.Machine.{joinCall}
 use Rattle.model.specs.Answers.{answerOf, headerAsked}
-use Rattle.model.specs.Questions.{headerOk, shelvesOk, writesDiffer, readsSound, beatsOk, fits, resultsFit, results, putAll, questions, firstNo, number, written, after, takeAt}
+use Rattle.model.specs.Questions.{headerOk, shelvesOk, writesDiffer, readsSound, beatsOk, fits, resultsFit, results, putAll, questions, number, written, after, takeAt}
 use Rattle.model.specs.declared.Header.{Header}
 use Rattle.model.specs.declared.HeaderAnswer.the-variants as answers
 use Rattle.model.proofs.Headers.{refused-means, valid-means}
+use Rattle.laws.specs.Accepted.{asked-first, asked-in-turn, yes-all}
 use Rattle.laws.specs.Booleans.{and-left, and-right}
 use Rattle.laws.specs.Sound.{sound-beats}
 use Rattle.cuts.specs.Counting.{FitAsks}
 use Rattle.cuts.specs.Joined.{JoinAsks, PutAsks}
 use Rattle.beat.specs.Joining.{joinAsked}
-use Rattle.beat.proofs.Calls.{after-refused, after-done, five}
+use Rattle.beat.proofs.Calls.{after-refused, after-done, unlike}
 use Rattle.beat.proofs.Splits.{header-ok}
 
 -- ---- questions 2, 3 and 4, by the way that the code goes
@@ -61,15 +62,6 @@ module _ (h : Header) (s : List ℕ) (i j : ℕ) where
 
 -- ---- questions 2, 3, 4, 6 and 8
 
-five-yes : (a b c d e : Bool) → _≡_ {A = ℕ} (cond a (cond b (cond c (cond d (cond e 0 8) 6) 4) 3) 2) 0
-    → (a ≡ true) × (b ≡ true) × (c ≡ true) × (d ≡ true) × (e ≡ true)
-five-yes true true true true true z = (refl, refl, refl, refl, refl)
-five-yes true true true true false z = absurd (omega arith)
-five-yes true true true false e z = absurd (omega arith)
-five-yes true true false d e z = absurd (omega arith)
-five-yes true false c d e z = absurd (omega arith)
-five-yes false b c d e z = absurd (omega arith)
-
 module _ (h : Header) (s : List ℕ) (i j k : ℕ) where
   abbrev below : Bool
   below = ltb i (h .shelves) && (ltb j (h .shelves) && ltb k (h .shelves))
@@ -82,6 +74,9 @@ module _ (h : Header) (s : List ℕ) (i j k : ℕ) where
 
   abbrev room : Bool
   room = fits h (joinTakes (h .delta) (takeAt h s i) (takeAt h s j))
+
+  abbrev asked : List (ℕ × Bool)
+  asked = (2, below) ∷ (3, apart) ∷ (4, sound h s i j) ∷ (6, short) ∷ (8, room) ∷ []
 
   q2 : shelvesOk h (joinCall i j k) ≡ below
   unfolding shelvesOk
@@ -110,10 +105,7 @@ module _ (h : Header) (s : List ℕ) (i j k : ℕ) where
 
   asked-is : joinAsked h s i j k ≡ cond below (cond apart (cond (sound h s i j) (cond short (cond room 0 8) 6) 4) 3) 2
   unfolding joinAsked
-  asked-is = rw (q2, q3, q4, q6, q8) (five 2 3 4 6 8 below apart (sound h s i j) short room)
-
-  unlike : (x y : ℕ) → not (eqb x y) ≡ true → x ≡ y → ⊥
-  unlike x y e f = true≢false (sym e ∙ rw (eq-eqb x y f))
+  asked-is = rw (q2, q3, q4, q6, q8) (asked-in-turn asked)
 
   -- the answers as facts
   facts : headerOk h (length s) ≡ true → below ≡ true → apart ≡ true → sound h s i j ≡ true
@@ -133,10 +125,11 @@ module _ (h : Header) (s : List ℕ) (i j k : ℕ) where
 
   -- all are answered yes
   pub put-asks : headerOk h (length s) ≡ true → joinAsked h s i j k ≡ 0 → PutAsks s h i j k
+  unfolding joinAsked
   put-asks ok z =
-      let yes = five-yes below apart (sound h s i j) short room (sym asked-is ∙ z) in
-      let few = leb-true ((takeAt h s i) .beats + (takeAt h s j) .beats) maxBeats (yes .3) in
-      record { asks = facts ok (yes .0) (yes .1) (yes .2) few; fit = yes .4 }
+      let yes = yes-all asked (omega arith) (rw (q2, q3, q4, q6, q8) at z) in
+      let few = leb-true ((takeAt h s i) .beats + (takeAt h s j) .beats) maxBeats (yes .1 .1 .1 .0) in
+      record { asks = facts ok (yes .0) (yes .1 .0) (yes .1 .1 .0) few; fit = yes .1 .1 .1 .1 .0 }
 
   -- the ways out
   module _ {p : Bool} (e : p ≡ below) where
@@ -184,17 +177,12 @@ module _ (h : Header) (s : List ℕ) (i j k : ℕ) where
 -- ---- the call
 
 module _ (s : List ℕ) (i j k : ℕ) where
-  one-more : (a b c d e f : Bool) → firstNo ((1, a) ∷ (2, b) ∷ (3, c) ∷ (4, d) ∷ (6, e) ∷ (8, f) ∷ []) ≡ cond a (firstNo ((2, b) ∷ (3, c) ∷ (4, d) ∷ (6, e) ∷ (8, f) ∷ [])) 1
-  unfolding firstNo
-  one-more true b c d e f = refl
-  one-more false b c d e f = refl
-
   number-is : number s (joinCall i j k) ≡ cond (headerOk (headerOf s) (length s)) (joinAsked (headerOf s) s i j k) 1
   unfolding number questions joinAsked
   number-is =
       let h = headerOf s in
       let c = joinCall i j k in
-      one-more (headerOk h (length s)) (shelvesOk h c) (writesDiffer c) (readsSound h s c) (beatsOk h s c) (resultsFit h s c)
+      asked-first 1 (headerOk h (length s)) ((2, shelvesOk h c) ∷ (3, writesDiffer c) ∷ (4, readsSound h s c) ∷ (6, beatsOk h s c) ∷ (8, resultsFit h s c) ∷ [])
 
   pub no-header : answerOf answers.Refused ≡ headerAsked (headerOf s) (length s) → (1 ≡ number s (joinCall i j k)) × (s ≡ after s (joinCall i j k))
   no-header e =

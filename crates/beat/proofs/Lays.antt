@@ -2,7 +2,6 @@
 use mathlib.Core.Path.{_≡_, ap, _∙_}
 use mathlib.Core.List.{List}
 use Prim.Native.Nat.{ℕ, _+_, _*_, _/_, _≤_, _<_}
-use native.Mathlib.Nat.{mul-le-mul-right, suc-mul}
 use native.Mathlib.Omega.{arith}
 use lib.ListN.{length, take, drop}
 use lib.Seq.{take-length}
@@ -22,6 +21,7 @@ use Rattle.session.specs.Listing.{cellsListed}
 use Rattle.session.proofs.Frames.{shelf-framed}
 use Rattle.laws.specs.Reading.{length-read}
 use Rattle.session.proofs.Readings.{notes-words, notes-written}
+use Rattle.session.proofs.Sources.{shelf-inside}
 use Rattle.cuts.specs.Making.{Made, CellsAsks, cellsAt}
 use Rattle.beat.specs.Laying.{LayAsks, laidWords}
 use Rattle.beat.proofs.Asks.{list-passed}
@@ -52,7 +52,7 @@ module _ {s : List ℕ} {h : Header} {shelf beats : ℕ} {ws : List ℕ} {count 
       record {
         range = r;
         shelf-few = omega (arith, r .few-shelves, a .below);
-        inside = omega (arith, r .exact, suc-mul shelf (h .words), mul-le-mul-right (h .words) (a .below));
+        inside = shelf-inside h shelf (length s) r (a .below);
         whole = l .whole;
         fits = a .fits;
         words-few = r .small;

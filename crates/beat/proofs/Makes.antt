@@ -22,10 +22,10 @@ use Rattle.model.specs.declared.Cell.{Cell}
 use Rattle.laws.specs.Lists.{gather-append}
 use Rattle.laws.specs.Booleans.{and-left, and-right}
 use Rattle.session.specs.Reading.{noteAt}
-use Rattle.session.proofs.Frames.{length-cells}
 use Rattle.session.proofs.Counts.{Beats, note-beats}
 use Rattle.session.proofs.Readings.{notes-cons, note-same}
 use Rattle.laws.specs.Notes.{fair}
+use Rattle.laws.specs.Sessions.{length-cell-words}
 use Rattle.session.proofs.Checks.{count-asks}
 use Rattle.cuts.specs.Making.{Made, touchedCells, crossedCells, cellsBehind, LinesAsks, NoteAsks, CellsAsks, cellsAt}
 
@@ -117,7 +117,7 @@ module _ {s₀ s : List ℕ} {at δ : ℕ} {n : Note} {first next beat line to :
   -- as many words as are left to write
   room-left : to + 6 * length (cellsBehind δ n beat) ≤ length s
   room-left =
-      omega (arith, l .writes .place, l .writes .long, a .room, length-cells (cellsBehind δ n first), length-cells (cellsBehind δ n beat))
+      omega (arith, l .writes .place, l .writes .long, a .room, length-cell-words (cellsBehind δ n first), length-cell-words (cellsBehind δ n beat))
 
   start-low : n .start ≤ line
   start-low = omega (arith, i .high, l .closes, suc-mul beat δ, mul-le-mul-right δ (l .low))
@@ -170,7 +170,7 @@ module _ {s₀ s : List ℕ} {at δ : ℕ} {n : Note} {first next beat line to :
         let all : t ≡ splice s₀ at (gather cellWords (cellsBehind δ n first)) = m .words ∙ ap (λ (cs : List Cell). splice s to (gather cellWords cs)) (sym last-is) ∙ l .writes .same in
         record {
           words = all;
-          behind = omega (arith, m .behind, ap length last-is, l .writes .place, length-cells (cellsBehind δ n first), length-cells (cellsBehind δ n beat));
+          behind = omega (arith, m .behind, ap length last-is, l .writes .place, length-cell-words (cellsBehind δ n first), length-cell-words (cellsBehind δ n beat));
         }
 
 -- ---- one note
@@ -203,7 +203,7 @@ module _ {s : List ℕ} {at δ : ℕ} {n : Note} (a : NoteAsks s at δ n) where
     note-made {t} {r} k =
         let us = gather cellWords (touchedCells n f 0 (f * δ)) in
         let ws = gather cellWords (cellsBehind δ n f) in
-        let place : to ≡ at + length us = omega (arith, m .behind, length-cells (touchedCells n f 0 (f * δ))) in
+        let place : to ≡ at + length us = omega (arith, m .behind, length-cell-words (touchedCells n f 0 (f * δ))) in
         let all : gather cellWords (cellsOfNote δ n) ≡ us ++ ws = ap (gather cellWords) (note-lines j) ∙ gather-append cellWords (touchedCells n f 0 (f * δ)) (cellsBehind δ n f) in
         record {
           words = k .words ∙ rw (place, m .words, all) (sym (splice-append s at us ws));
@@ -281,15 +281,15 @@ module _ {s₀ s : List ℕ} {at count δ end from to : ℕ} (a : CellsAsks s₀
                   ahead-of .long,
                   l .ends,
                   a .room,
-                  length-cells (cellsAt δ s₀ at count),
-                  length-cells (cellsOfNote δ n),
+                  length-cell-words (cellsAt δ s₀ at count),
+                  length-cell-words (cellsOfNote δ n),
                   length-append (gather cellWords (cellsOfNote δ n)) (gather cellWords (gather (cellsOfNote δ) (notesFrom s₀ end (from + 4)))),
                 );
           }
 
       pub celling-note : {t : List ℕ} {r : ℕ} → Made s to (cellsOfNote δ n) t r → Celling s₀ t at count δ end (from + 4) r
       celling-note m =
-          let next = writes-run (gather cellWords (cellsOfNote δ n)) (6 * length (cellsOfNote δ n)) (length-cells (cellsOfNote δ n)) ahead-of in
+          let next = writes-run (gather cellWords (cellsOfNote δ n)) (6 * length (cellsOfNote δ n)) (length-cell-words (cellsOfNote δ n)) ahead-of in
           record {
             beats = l .beats;
             range = l .range;
@@ -305,4 +305,4 @@ module _ {s₀ s : List ℕ} {at count δ end from to : ℕ} (a : CellsAsks s₀
   celled done =
       let none : (end - from) / 4 ≡ 0 = omega (arith, l .whole) in
       let all = rw (none, l .ends) at (l .writes) in
-      record { words = writes-done all; behind = omega (arith, all .place, length-cells (cellsAt δ s₀ at count)) }
+      record { words = writes-done all; behind = omega (arith, all .place, length-cell-words (cellsAt δ s₀ at count)) }

@@ -1,6 +1,6 @@
 -- Split: the number by the way that the questions go, and both halves' words. Assumes nothing.
 use mathlib.Core.Path.{_≡_, refl, sym, _∙_}
-use mathlib.Core.Bool.{Bool, true, false, cond, not, _&&_, and-true, true≢false}
+use mathlib.Core.Bool.{Bool, true, false, cond, not, _&&_, and-true}
 use mathlib.Core.List.{List, [], _∷_}
 use Prim.Native.Nat.{ℕ, _+_, _≤_, _<_}
 use native.Mathlib.Omega.{arith}
@@ -18,6 +18,7 @@ use Rattle.model.specs.Questions.{headerOk, shelvesOk, writesDiffer, readsSound
 use Rattle.model.specs.declared.Header.{Header}
 use Rattle.model.specs.declared.HeaderAnswer.the-variants as answers
 use Rattle.model.proofs.Headers.{InRange, in-range, refused-means, valid-means}
+use Rattle.laws.specs.Accepted.{asked-in-turn, yes-all}
 use Rattle.laws.specs.Booleans.{and-left, and-right}
 use Rattle.laws.specs.Reached.{split-number}
 use Rattle.laws.specs.Sound.{sound-beats}
@@ -25,7 +26,7 @@ use Rattle.cuts.specs.declared.halves.Half.{Half}
 use Rattle.cuts.specs.Halving.{leftHalf, rightHalf, halfOf, HalfAsks}
 use Rattle.cuts.specs.BothHalves.{Sides, BothAsks}
 use Rattle.beat.specs.Splitting.{splitAsked, SplitAsks}
-use Rattle.beat.proofs.Calls.{after-refused, after-done}
+use Rattle.beat.proofs.Calls.{after-refused, after-done, unlike}
 use Rattle.session.proofs.Sources.{beats-is, inside-session, place-asks}
 
 -- ---- question 2 and question 3, by the way that the code goes
@@ -57,21 +58,6 @@ module _ (i l r : ℕ) where
 
 -- ---- questions 2 to 5
 
-four : (a b c d : Bool) → firstNo ((2, a) ∷ (3, b) ∷ (4, c) ∷ (5, d) ∷ []) ≡ cond a (cond b (cond c (cond d 0 5) 4) 3) 2
-unfolding firstNo
-four true true true true = refl
-four true true true false = refl
-four true true false d = refl
-four true false c d = refl
-four false b c d = refl
-
-four-yes : (a b c d : Bool) → _≡_ {A = ℕ} (cond a (cond b (cond c (cond d 0 5) 4) 3) 2) 0 → (a ≡ true) × (b ≡ true) × (c ≡ true) × (d ≡ true)
-four-yes true true true true e = (refl, refl, refl, refl)
-four-yes true true true false e = absurd (omega arith)
-four-yes true true false d e = absurd (omega arith)
-four-yes true false c d e = absurd (omega arith)
-four-yes false b c d e = absurd (omega arith)
-
 module _ (h : Header) (s : List ℕ) (i k l r : ℕ) where
   abbrev below : Bool
   below = ltb i (h .shelves) && (ltb l (h .shelves) && ltb r (h .shelves))
@@ -84,6 +70,9 @@ module _ (h : Header) (s : List ℕ) (i k l r : ℕ) where
 
   abbrev within : Bool
   within = beatWithin h s i k
+
+  abbrev asked : List (ℕ × Bool)
+  asked = (2, below) ∷ (3, apart) ∷ (4, sound) ∷ (5, within) ∷ []
 
   q2 : shelvesOk h (splitCall i k l r) ≡ below
   unfolding shelvesOk
@@ -105,7 +94,7 @@ module _ (h : Header) (s : List ℕ) (i k l r : ℕ) where
 
   asked-is : splitAsked h s i k l r ≡ cond below (cond apart (cond sound (cond within 0 5) 4) 3) 2
   unfolding splitAsked
-  asked-is = rw (q2, q3, q4) (four below apart sound within)
+  asked-is = rw (q2, q3, q4) (asked-in-turn asked)
 
   -- the ways out
   module _ {p : Bool} (e : p ≡ below) where
@@ -161,28 +150,25 @@ module _ {s : List ℕ} {h : Header} {i k l r : ℕ} (a : SplitAsks s h i k l r)
     pub beat-in : k ≤ (takeAt h s i) .beats
     pub beats-few : (takeAt h s i) .beats ≤ maxBeats
 
-  unlike : (x y : ℕ) → not (eqb x y) ≡ true → x ≡ y → ⊥
-  unlike x y e f = true≢false (sym e ∙ rw (eq-eqb x y f))
-
   pub granted : Granted
-  unfolding beatWithin takeIn
+  unfolding splitAsked beatWithin takeIn
   granted =
-      let yes = four-yes (below h s i k l r) (apart h s i k l r) (sound h s i k l r) (within h s i k l r) (sym (asked-is h s i k l r) ∙ a .asked) in
+      let yes = yes-all (asked h s i k l r) (omega arith) (rw (q2 h s i k l r, q3 h s i k l r, q4 h s i k l r) at (a .asked)) in
       let first = ltb i (h .shelves) in
       let second = ltb l (h .shelves) in
       let third = ltb r (h .shelves) in
       let two = and-right first (second && third) (yes .0) in
-      let differ = and-right (not (eqb l r)) (not (eqb l i) && not (eqb r i)) (yes .1) in
+      let differ = and-right (not (eqb l r)) (not (eqb l i) && not (eqb r i)) (yes .1 .0) in
       record {
         take-below = ltb-true i (h .shelves) (and-left first (second && third) (yes .0));
         left-below = ltb-true l (h .shelves) (and-left second third two);
         right-below = ltb-true r (h .shelves) (and-right second third two);
-        left-right = unlike l r (and-left (not (eqb l r)) (not (eqb l i) && not (eqb r i)) (yes .1));
+        left-right = unlike l r (and-left (not (eqb l r)) (not (eqb l i) && not (eqb r i)) (yes .1 .0));
         take-left = λ e. unlike l i (and-left (not (eqb l i)) (not (eqb r i)) differ) (sym e);
         take-right = λ e. unlike r i (and-right (not (eqb l i)) (not (eqb r i)) differ) (sym e);
-        is-sound = yes .2;
-        beat-in = leb-true k ((takeAt h s i) .beats) (yes .3);
-        beats-few = sound-beats h (range .some-ticks) (shelf h s i) (yes .2);
+        is-sound = yes .1 .1 .0;
+        beat-in = leb-true k ((takeAt h s i) .beats) (yes .1 .1 .1 .0);
+        beats-few = sound-beats h (range .some-ticks) (shelf h s i) (yes .1 .1 .0);
       }
 
   pub source-asks : (i < h .shelves) × (h .shelves ≤ maxShelves) × (h .words ≤ maxWords)

@@ -16,9 +16,9 @@ use Rattle.model.specs.declared.Header.{Header}
 use Rattle.model.specs.declared.Note.{Note}
 use Rattle.model.specs.declared.Cell.{Cell}
 use Rattle.laws.specs.Cutting.{noteBack}
+use Rattle.laws.specs.Sessions.{length-note-words}
 use Rattle.laws.specs.Sweep.{skip}
 use Rattle.session.specs.Reading.{lastCells}
-use Rattle.session.proofs.Frames.{length-notes}
 use Rattle.cuts.specs.declared.halves.Half.{Half}
 use Rattle.cuts.specs.declared.halves.Ends.{Ends}
 use Rattle.cuts.specs.declared.halves.CellPlace.{CellPlace}
@@ -158,7 +158,7 @@ module _ {s : List ℕ} {h : Header} {a b : Half} {n : Note} {end : ℕ} {at : C
             still =
                 let apart : Apart (end - 6 * at .openings) (6 * at .openings) (at .left) (4 * length lefts) = rw left-part at (q .apart) in
                 let same : Same s₁ s (end - 6 * at .openings) (6 * at .openings) =
-                rw (m .words) (splice-same s (at .left) (gather noteWords lefts) apart (omega (arith, length-notes lefts))) in
+                rw (m .words) (splice-same s (at .left) (gather noteWords lefts) apart (omega (arith, length-note-words lefts))) in
                 cells-agree s₁ s end end o (omega (arith, q .closings-in, q .order, f .1)) (omega (arith, q .closings-in, q .order, f .1))
                 (λ x pos upto. same .at (end - x) (omega (arith, q .closings-in, q .order, f .1)) (omega (arith, q .closings-in, q .order, f .1)))
 
@@ -177,8 +177,8 @@ module _ {s : List ℕ} {h : Header} {a b : Half} {n : Note} {end : ℕ} {at : C
               order = f .2;
               put = record {
                 words = m₂ .words ∙ rw (still, m .words, left-part, right-part);
-                left-behind = m .behind ∙ rw left-part (omega (arith, length-notes (acrossParts h a n (lastCells s end k))));
-                right-behind = m₂ .behind ∙ rw (still, right-part) (omega (arith, length-notes (acrossParts h b n (lastCells s end o))));
+                left-behind = m .behind ∙ rw left-part (omega (arith, length-note-words (acrossParts h a n (lastCells s end k))));
+                right-behind = m₂ .behind ∙ rw (still, right-part) (omega (arith, length-note-words (acrossParts h b n (lastCells s end o))));
               };
             }
 

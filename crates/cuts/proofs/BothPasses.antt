@@ -12,10 +12,10 @@ use Rattle.model.specs.declared.Header.{Header}
 use Rattle.model.specs.declared.Note.{Note}
 use Rattle.model.specs.declared.Cell.{Cell}
 use Rattle.laws.specs.Lists.{gather-append}
+use Rattle.laws.specs.Sessions.{length-note-words, length-cell-words}
 use Rattle.session.specs.Reading.{noteAt, cellAt, lastNotes, lastCells}
 use Rattle.session.proofs.Readings.{note-same}
 use Rattle.session.proofs.Lasts.{no-notes, no-cells, last-notes, last-cells}
-use Rattle.session.proofs.Frames.{length-notes, length-cells}
 use Rattle.cuts.specs.declared.halves.Half.{Half}
 use Rattle.cuts.specs.declared.halves.Contents.{Contents}
 use Rattle.cuts.specs.declared.halves.Ends.{Ends}
@@ -66,7 +66,7 @@ module _ (s₀ : List ℕ) (h : Header) (v : Half) (ok : HalfOk (h .delta) v) (f
   first-fits =
       omega (
         arith,
-        length-notes (notesLeft h v s₀ from left cells),
+        length-note-words (notesLeft h v s₀ from left cells),
         ap length from-first,
         length-append (partFrom h v n (lastCells s₀ (from .end) cells)) rest,
       )
@@ -83,10 +83,10 @@ no-words s h v from cells = rw (no-notes s (from .middle), no-parts h v (lastCel
 
 module _ {s₀ : List ℕ} {h : Header} {a b : Half} {from : Contents} {to : Ends} (q : NotesAsks s₀ h a b from to) where
   lefts : length (gather noteWords (notesLeft h a s₀ from (from .notes) (from .cells))) ≡ 4 * length (notesLeft h a s₀ from (from .notes) (from .cells))
-  lefts = length-notes (notesLeft h a s₀ from (from .notes) (from .cells))
+  lefts = length-note-words (notesLeft h a s₀ from (from .notes) (from .cells))
 
   rights : length (gather noteWords (notesLeft h b s₀ from (from .notes) (from .cells))) ≡ 4 * length (notesLeft h b s₀ from (from .notes) (from .cells))
-  rights = length-notes (notesLeft h b s₀ from (from .notes) (from .cells))
+  rights = length-note-words (notesLeft h b s₀ from (from .notes) (from .cells))
 
   pub noting-start : Noting s₀ s₀ h a b from to (record { left = to .left; right = to .right; closings = from .cells; openings = from .cells }) (from .notes)
   noting-start = record {
@@ -185,7 +185,7 @@ module _ (f : Cell → List Cell) (c : Cell) (cs : List Cell) where
   cells-from = gather-append cellWords (f c) (gather f cs)
 
   cell-fits : 6 * length (f c) ≤ length (gather cellWords (gather f (c ∷ cs)))
-  cell-fits = omega (arith, ap length cells-from, length-append (gather cellWords (f c)) (gather cellWords (gather f cs)), length-cells (f c))
+  cell-fits = omega (arith, ap length cells-from, length-append (gather cellWords (f c)) (gather cellWords (gather f cs)), length-cell-words (f c))
 
 module _ (k : ℕ) (s : List ℕ) (from : Contents) where
   no-left : gather cellWords (leftCells k s from 0) ≡ []
@@ -198,10 +198,10 @@ module _ (k : ℕ) (s : List ℕ) (from : Contents) where
 
 module _ {s₀ : List ℕ} {k : ℕ} {from : Contents} {to : Ends} (q : CellsAsks s₀ k from to) where
   left-sized : length (gather cellWords (leftCells k s₀ from (from .cells))) ≡ 6 * length (leftCells k s₀ from (from .cells))
-  left-sized = length-cells (leftCells k s₀ from (from .cells))
+  left-sized = length-cell-words (leftCells k s₀ from (from .cells))
 
   right-sized : length (gather cellWords (rightCells k s₀ from (from .cells))) ≡ 6 * length (rightCells k s₀ from (from .cells))
-  right-sized = length-cells (rightCells k s₀ from (from .cells))
+  right-sized = length-cell-words (rightCells k s₀ from (from .cells))
 
   pub celling-start : Celling s₀ s₀ k from to to (from .cells)
   celling-start = record { cells-few = omega arith; writes = both-start s₀ to _ _ (rw (left-sized, right-sized) (q .placed .apart)) }

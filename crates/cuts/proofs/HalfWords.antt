@@ -12,7 +12,6 @@ use lib.ListN.{length, getD, drop}
 use lib.Seq.{getD-drop, getD-take}
 use Rattle.words.specs.Apart.{Apart, Apart.ahead, Apart.behind, apart-swap, apart-within}
 use Rattle.model.specs.Lists.{consIf, gather, keep}
-use Rattle.model.specs.Limits.{maxShelves, maxWords}
 use Rattle.model.specs.Session.{shelf, shelfAt}
 use Rattle.model.specs.Takes.{Take, wordsUsed, word, notesIn, takeIn, notesOf, splitLeft, splitRight}
 use Rattle.model.specs.Questions.{fits, takeAt}
@@ -167,9 +166,6 @@ module _ {s : List ℕ} {h : Header} {v : Half} {i j : ℕ} (a : HalfAsks s h v 
   room = take-room h half half-fits
 
   -- ---- what the functions ask
-
-  pub place-asks : (k : ℕ) → k < h .shelves → (k < h .shelves) × (h .shelves ≤ maxShelves) × (h .words ≤ maxWords)
-  place-asks k below = (below, range .few-shelves, range .small)
 
   pub contents-asks : {at : ℕ} → at ≡ shelfAt h i → (at ≤ maxSession) × (at + 3 ≤ length s)
   contents-asks e = rw e (omega (arith, source-inside, range .exact, mul-le-mul (range .few-shelves) (range .small)), omega (arith, source-inside, range .large))

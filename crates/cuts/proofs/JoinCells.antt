@@ -18,9 +18,9 @@ use Rattle.laws.specs.Lists.{gather-append}
 use Rattle.laws.specs.Lanes.{insertLane, mergeLane}
 use Rattle.laws.specs.Relations.{All}
 use Rattle.laws.specs.SeamWalk.{cellLater}
+use Rattle.laws.specs.Sessions.{length-cell-words}
 use Rattle.session.specs.Reading.{cellAt, lastCells}
 use Rattle.session.proofs.Lasts.{no-cells, last-cells}
-use Rattle.session.proofs.Frames.{length-cells}
 use Rattle.cuts.specs.declared.halves.Contents.{Contents}
 use Rattle.cuts.specs.Making.{Made}
 use Rattle.cuts.specs.Joined.{lowerCells, upperCells, laterCells, Movable, RunAsks, LowerAsks, Lowered, before, BeforeAsks, PutBefore, cellsJoined, JoinedAsks}
@@ -106,7 +106,7 @@ module _ {s₀ : List ℕ} {to lane beats end left₀ : ℕ} (a : LowerAsks s₀
 
   module _ {s : List ℕ} {at left : ℕ} (l : Lowering s₀ s to lane beats end left₀ at left) where
     sized : length (gather cellWords (lowerCells lane (laterCells beats s₀ end left₀))) ≡ 6 * length (lowerCells lane (laterCells beats s₀ end left₀))
-    sized = length-cells (lowerCells lane (laterCells beats s₀ end left₀))
+    sized = length-cell-words (lowerCells lane (laterCells beats s₀ end left₀))
 
     were : (k : ℕ) → k ≤ left₀ → lastCells s end k ≡ lastCells s₀ end k
     were = run-were (a .run .cells-in) (writes-same (l .writes) (rw sized (a .run .apart)))
@@ -205,7 +205,7 @@ module _ {s : List ℕ} {to : ℕ} {c : Cell} {beats end left : ℕ} (a : Before
     pub before-put : {u : List ℕ} → u ≡ splice t (to + 6 * (left - r)) (cellWords c) → PutBefore s to c beats end left u r
     unfolding before
     before-put e =
-        let place : to + 6 * (left - r) ≡ to + length (gather cellWords lower) = omega (arith, l .count, length-cells lower) in
+        let place : to + 6 * (left - r) ≡ to + length (gather cellWords lower) = omega (arith, l .count, length-cell-words lower) in
         record {
           words = e ∙ rw (l .words, place) (sym (splice-append s to (gather cellWords lower) (cellWords c))) ∙ ap (splice s to) (sym (gather-append cellWords lower (c ∷ [])));
           rest = l .rest;
@@ -234,7 +234,7 @@ module _ {s₀ : List ℕ} {to beats : ℕ} {first second : Contents} (a : Joine
 
   module _ {s : List ℕ} {at left rest : ℕ} (l : Joining s₀ s to beats first second at left rest) where
     all-sized : length (gather cellWords all) ≡ 6 * length all
-    all-sized = length-cells all
+    all-sized = length-cell-words all
 
     first-were : (k : ℕ) → k ≤ first .cells → lastCells s (first .end) k ≡ lastCells s₀ (first .end) k
     first-were = run-were (a .first-in) (writes-same (l .writes) (rw all-sized (a .first-apart)))
@@ -292,7 +292,7 @@ module _ {s₀ : List ℕ} {to beats : ℕ} {first second : Contents} (a : Joine
             record {
               run =
                   rest-run (6 * length part)
-                  (omega (arith, ahead-of .place, all-sized, length-cells part, length-append (gather cellWords part) (gather cellWords behind)));
+                  (omega (arith, ahead-of .place, all-sized, length-cell-words part, length-append (gather cellWords part) (gather cellWords behind)));
             }
 
         module _ {t : List ℕ} {r : ℕ} (m : PutBefore s at c beats (second .end) rest t r) where
@@ -312,7 +312,7 @@ module _ {s₀ : List ℕ} {to beats : ℕ} {first second : Contents} (a : Joine
           unfolding part cellsJoined
           joining-cell =
               let size : 6 * length part ≡ 6 * (rest - r) + 6 = omega (arith, m .count, some-fewer) in
-              let next = writes-run (gather cellWords part) (6 * (rest - r) + 6) (length-cells part ∙ size) ahead-of in
+              let next = writes-run (gather cellWords part) (6 * (rest - r) + 6) (length-cell-words part ∙ size) ahead-of in
               record { few = omega (arith, l .few); rest-few = omega (arith, some-fewer, l .rest-few); writes = rw (← m .words, left-over) at next }
 
     -- the first's cells are over
@@ -333,7 +333,7 @@ module _ {s₀ : List ℕ} {to beats : ℕ} {first second : Contents} (a : Joine
           record {
             run =
                 rest-run (6 * length (lowerCells 2048 (laterCells beats s (second .end) rest)))
-                (omega (arith, last-ahead .place, all-sized, length-cells (lowerCells 2048 (laterCells beats s (second .end) rest))));
+                (omega (arith, last-ahead .place, all-sized, length-cell-words (lowerCells 2048 (laterCells beats s (second .end) rest))));
           }
 
       module _ {t : List ℕ} {r : ℕ} (m : Lowered s at 2048 beats (second .end) rest t r) where
@@ -343,5 +343,5 @@ module _ {s₀ : List ℕ} {to beats : ℕ} {first second : Contents} (a : Joine
         pub joined-done : Made s₀ to all t (at + 6 * (rest - r))
         joined-done = record {
           words = m .words ∙ last-ahead .same;
-          behind = omega (arith, m .count, last-ahead .place, all-sized, length-cells (lowerCells 2048 (laterCells beats s (second .end) rest)));
+          behind = omega (arith, m .count, last-ahead .place, all-sized, length-cell-words (lowerCells 2048 (laterCells beats s (second .end) rest)));
         }

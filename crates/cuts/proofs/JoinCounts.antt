@@ -13,11 +13,10 @@ use Rattle.model.specs.declared.Cell.{Cell}
 use Rattle.model.specs.declared.Header.{Header}
 use Rattle.laws.specs.JoinCount.{seams, seams-over, seams-step, lone-append, lone-few}
 use Rattle.laws.specs.JoinWalk.{From, cellRest, cellRun, from-ahead, laneAhead, rest-from, run-rest}
-use Rattle.laws.specs.Reading.{length-cells}
 use Rattle.laws.specs.Seam.{boundAt, firstOr, lone, one, seamOf}
 use Rattle.laws.specs.SeamWalk.{lastOr}
 use Rattle.session.specs.Reading.{cellAt, lastCells}
-use Rattle.session.proofs.Lasts.{no-cells, last-cells}
+use Rattle.session.proofs.Lasts.{no-cells, length-last, last-cells}
 use Rattle.cuts.specs.declared.counting.CellRun.{CellRun}
 use Rattle.cuts.specs.declared.counting.SeamCount.{SeamCount}
 use Rattle.cuts.specs.declared.halves.Contents.{Contents}
@@ -50,10 +49,6 @@ pub two-few : (h : Header) (c d : Cell) {p q : Bool} {x y : ℕ} → p ≡ stand
 two-few h c d e f e' f' = omega (arith, f ∙ ap one e, f' ∙ ap one e', one-few (standsAlone h c), one-few (standsAlone h d))
 
 -- ---- the cells of a lane
-
-length-last : (s : List ℕ) (end k : ℕ) → length (lastCells s end k) ≡ k
-unfolding lastCells
-length-last s end k = length-cells k _
 
 module _ {s : List ℕ} {r : CellRun} (a : RunAhead s r) where
   pub counted : r .left ≡ r .rest + length (runCells s r)

@@ -20,9 +20,9 @@ use Rattle.laws.specs.JoinWalk.{runOf, restOf, laneAhead, leastLane, noteRun, n
 use Rattle.laws.specs.Relations.{All}
 use Rattle.laws.specs.Seam.{boundAt, endingAt, startingAt0, upTo, fromOn, joinOver}
 use Rattle.laws.specs.SeamWalk.{lastOr, noteLater}
+use Rattle.laws.specs.Sessions.{length-note-words}
 use Rattle.session.specs.Reading.{noteAt, cellAt, lastNotes, lastCells}
 use Rattle.session.proofs.Lasts.{no-notes, no-cells, last-notes, last-cells}
-use Rattle.session.proofs.Frames.{length-notes}
 use Rattle.cuts.specs.declared.halves.Contents.{Contents}
 use Rattle.cuts.specs.declared.seam.Seam.{Seam}
 use Rattle.cuts.specs.Seams.{Shiftable, laterRun, NoteRunAsks, NoteRunPut, RunRead, OverAsks, laneNotes, laneBy, overSeam, laneOf}
@@ -99,7 +99,7 @@ module _ {s₀ : List ℕ} {to lane ticks end left₀ : ℕ} (a : NoteRunAsks s�
 
   module _ {s : List ℕ} {at left : ℕ} (l : Running s₀ s to lane ticks end left₀ at left) where
     sized : length (gather noteWords (laterRun lane ticks s₀ end left₀)) ≡ 4 * length (laterRun lane ticks s₀ end left₀)
-    sized = length-notes (laterRun lane ticks s₀ end left₀)
+    sized = length-note-words (laterRun lane ticks s₀ end left₀)
 
     were : (k : ℕ) → k ≤ left₀ → lastNotes s end k ≡ lastNotes s₀ end k
     were = notes-were (a .notes-in) (writes-same (l .writes) (rw sized (a .apart)))

@@ -16,11 +16,11 @@ use Rattle.model.specs.declared.Note.{Note}
 use Rattle.model.specs.declared.Cell.{Cell}
 use Rattle.laws.specs.JoinWalk.{run-rest, noteRun, cellRun, cellRest}
 use Rattle.laws.specs.Lists.{gather-append}
-use Rattle.laws.specs.Reading.{length-cells}
 use Rattle.laws.specs.Seam.{boundAt, butLast, joinApart, joinOver, joinLane}
 use Rattle.laws.specs.SeamWalk.{lastOr, noteLater}
+use Rattle.laws.specs.Sessions.{length-note-words}
 use Rattle.session.specs.Reading.{lastNotes, lastCells}
-use Rattle.session.proofs.Frames.{length-notes}
+use Rattle.session.proofs.Lasts.{length-last}
 use Rattle.cuts.specs.declared.halves.Contents.{Contents}
 use Rattle.cuts.specs.declared.seam.Seam.{Seam}
 use Rattle.cuts.specs.Halving.{Noted, Placed}
@@ -111,7 +111,7 @@ lane-long h k ms cs ns ds = by cs ds
 one-behind : (s : List ℕ) (to : ℕ) (ms : List Note) (n : Note)
     → splice (splice s to (gather noteWords ms)) (to + 4 * length ms) (noteWords n) ≡ splice s to (gather noteWords (ms ++ n ∷ []))
 one-behind s to ms n =
-    let place : to + 4 * length ms ≡ to + length (gather noteWords ms) = omega (arith, length-notes ms) in
+    let place : to + 4 * length ms ≡ to + length (gather noteWords ms) = omega (arith, length-note-words ms) in
     ap (λ (x : ℕ). splice (splice s to (gather noteWords ms)) x (noteWords n)) place ∙ sym (splice-append s to (gather noteWords ms) (noteWords n))
     ∙ ap (splice s to) (sym (gather-append noteWords ms (n ∷ [])))
 
@@ -149,10 +149,6 @@ later-none (n ∷ ns) = ap₂ _∷_ one (later-none ns)
         let a : n .start + 0 ≡ n .start = omega arith in
         let b : n .end + 0 ≡ n .end = omega arith in
         λ i. record { lane = n .lane; start = a i; end = b i; velocity = n .velocity }
-
-length-last : (s : List ℕ) (end k : ℕ) → length (lastCells s end k) ≡ k
-unfolding lastCells
-length-last s end k = length-cells k _
 
 -- of the cells in front of those that are left, how many are of the lane
 pub cells-run : (s : List ℕ) (lane end k r : ℕ) → lastCells s end r ≡ cellRest lane (lastCells s end k) → k ≡ r + length (cellRun lane (lastCells s end k))

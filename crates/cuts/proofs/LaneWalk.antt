@@ -16,8 +16,8 @@ use Rattle.laws.specs.JoinLanes.{joinLanes}
 use Rattle.laws.specs.JoinWalk.{Four, leastLane, noteRest, cellRest, four-least, four-rest, join-step, least-above, least-none}
 use Rattle.laws.specs.Lists.{gather-append}
 use Rattle.laws.specs.Relations.{All}
+use Rattle.laws.specs.Sessions.{length-note-words}
 use Rattle.session.specs.Reading.{lastNotes, lastCells}
-use Rattle.session.proofs.Frames.{length-notes}
 use Rattle.cuts.specs.declared.halves.Contents.{Contents}
 use Rattle.cuts.specs.declared.lanes.Rests.{Rests}
 use Rattle.cuts.specs.Halving.{Noted, Placed}
@@ -127,7 +127,7 @@ module _ {s₀ : List ℕ} {to : ℕ} {h : Header} {beats : ℕ} {first second :
 
   module _ {s : List ℕ} {rests : Rests} (l : ℕ) (w : Walked s₀ s to h beats first second rests l) where
     size : length (gather noteWords all) ≡ 4 * length all
-    size = length-notes all
+    size = length-note-words all
 
     first-still : Still s₀ s (rests .first)
     first-still =
@@ -191,7 +191,7 @@ module _ {s₀ : List ℕ} {to : ℕ} {h : Header} {beats : ℕ} {first second :
     walk-done h' =
         let none = least-none lane _ _ _ _ (w .lanes) h beats (subst (λ (n : ℕ). 2048 ≤ n) (v .lane-is) h') in
         let done : Writes s₀ s to (rests .at) (gather noteWords all) [] = subst (λ (ns : List Note). Writes s₀ s to (rests .at) (gather noteWords all) (gather noteWords ns)) none (w .writes) in
-        record { words = writes-done done; behind = omega (arith, done .place, length-notes all) }
+        record { words = writes-done done; behind = omega (arith, done .place, length-note-words all) }
 
     module _ (less : lane < 2048) where
       abbrev here : List Note
@@ -212,7 +212,7 @@ module _ {s₀ : List ℕ} {to : ℕ} {h : Header} {beats : ℕ} {first second :
       ahead = subst (λ (ws : List ℕ). Writes s₀ s to (rests .at) (gather noteWords all) ws) (ap (gather noteWords) step ∙ gather-append noteWords here rest) (w .writes)
 
       fits : rests .at + 4 * length here ≤ to + 4 * length all
-      fits = omega (arith, ahead .place, length-notes all, length-notes here, length-append (gather noteWords here) (gather noteWords rest))
+      fits = omega (arith, ahead .place, length-note-words all, length-note-words here, length-append (gather noteWords here) (gather noteWords rest))
 
       pub lane-asks : Joinable s (rests .at) h beats line (rests .first) (rests .second) here
       lane-asks =
@@ -239,7 +239,7 @@ module _ {s₀ : List ℕ} {to : ℕ} {h : Header} {beats : ℕ} {first second :
           let f = left-cells (first-still lane w) (p .first-left) in
           let g = left-notes (second-still lane w) (p .second-left) in
           let i = left-cells (second-still lane w) (p .second-left) in
-          let next = writes-run (gather noteWords here) (4 * length here) (length-notes here) ahead in
+          let next = writes-run (gather noteWords here) (4 * length here) (length-note-words here) ahead in
           record {
             first-in = within-left (w .first-in) (p .first-left);
             second-in = within-left (w .second-in) (p .second-left);

@@ -13,8 +13,8 @@ use Rattle.laws.specs.JoinWalk.{noteRun, noteRest, cellRun, cellRest}
 use Rattle.laws.specs.Lists.{gather-append}
 use Rattle.laws.specs.Relations.{all-imp}
 use Rattle.laws.specs.SeamWalk.{noteLater}
+use Rattle.laws.specs.Sessions.{length-note-words}
 use Rattle.session.specs.Reading.{lastCells}
-use Rattle.session.proofs.Frames.{length-notes}
 use Rattle.cuts.specs.declared.halves.Contents.{Contents}
 use Rattle.cuts.specs.declared.lanes.Front.{Front}
 use Rattle.cuts.specs.declared.seam.Seam.{Seam}
@@ -63,10 +63,10 @@ module _ {s : List ℕ} {to : ℕ} {h : Header} {beats line : ℕ} (lane : ℕ) 
     long₁ = ap length words₁ ∙ length-splice s to (gather noteWords ms)
 
     first-still : Still s s₁ first
-    first-still = still (j .first-placed) (gather noteWords ms) (omega (arith, length-notes ms, few)) words₁
+    first-still = still (j .first-placed) (gather noteWords ms) (omega (arith, length-note-words ms, few)) words₁
 
     second-still : Still s s₁ second
-    second-still = still (j .second-placed) (gather noteWords ms) (omega (arith, length-notes ms, few)) words₁
+    second-still = still (j .second-placed) (gather noteWords ms) (omega (arith, length-note-words ms, few)) words₁
 
     count : first .notes - rest ≡ length ms
     count = omega (arith, p .count, ap length run-is)
@@ -148,7 +148,7 @@ module _ {s : List ℕ} {to : ℕ} {h : Header} {beats line : ℕ} (lane : ℕ) 
     front-long = ap length (p .noted .words) ∙ length-splice s to (gather noteWords fs)
 
     behind-still : Still s s₁ second
-    behind-still = still (j .second-placed) (gather noteWords fs) (omega (arith, length-notes fs, sized)) (p .noted .words)
+    behind-still = still (j .second-placed) (gather noteWords fs) (omega (arith, length-note-words fs, sized)) (p .noted .words)
 
     pub back-asks : (4 * second .notes ≤ second .middle) × (second .middle ≤ length s₁)
     back-asks = (omega (arith, j .second-placed .notes-in), omega (arith, j .second-placed .order, j .second-placed .inside, front-long))
@@ -174,7 +174,7 @@ module _ {s : List ℕ} {to : ℕ} {h : Header} {beats line : ℕ} (lane : ℕ) 
       module _ {s₂ : List ℕ} {rest : ℕ} (q : NoteRunPut s₁ (front .at) lane line (second .middle) left s₂ rest) where
         words₂ : s₂ ≡ splice s to (gather noteWords all)
         words₂ =
-            let place : front .at ≡ to + length (gather noteWords fs) = omega (arith, p .noted .behind, length-notes fs) in
+            let place : front .at ≡ to + length (gather noteWords fs) = omega (arith, p .noted .behind, length-note-words fs) in
             q .words
             ∙ (λ i. splice (p .noted .words i) (place i) (gather noteWords (back-is i)))
             ∙ sym (splice-append s to (gather noteWords fs) (gather noteWords bs))
@@ -184,7 +184,7 @@ module _ {s : List ℕ} {to : ℕ} {h : Header} {beats line : ℕ} (lane : ℕ) 
         long₂ = ap length words₂ ∙ length-splice s to (gather noteWords all)
 
         second-still₂ : Still s s₂ second
-        second-still₂ = still (j .second-placed) (gather noteWords all) (omega (arith, length-notes all)) words₂
+        second-still₂ = still (j .second-placed) (gather noteWords all) (omega (arith, length-note-words all)) words₂
 
         pub second-cells-asks : (6 * second .cells ≤ second .end) × (second .end ≤ length s₂)
         second-cells-asks = (omega (arith, j .second-placed .cells-in), omega (arith, j .second-placed .inside, long₂))

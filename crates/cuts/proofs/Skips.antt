@@ -9,21 +9,11 @@ use lib.Dec.{eqb, ltb}
 use lib.ListN.{length}
 use Rattle.model.specs.declared.Cell.{Cell}
 use Rattle.laws.specs.Booleans.{and-left, and-right}
-use Rattle.laws.specs.Reading.{length-cells}
 use Rattle.laws.specs.Sweep.{earlier, skip}
 use Rattle.session.specs.Reading.{cellAt, lastCells}
-use Rattle.session.proofs.Lasts.{last-cells}
+use Rattle.session.proofs.Lasts.{length-last, last-cells, skip-yes, skip-no}
 
 -- ---- a list of cells
-
-module _ (l b : ℕ) (c : Cell) (cs : List Cell) where
-  skip-yes : earlier l b c ≡ true → skip l b (c ∷ cs) ≡ skip l b cs
-  unfolding skip
-  skip-yes e = rw (e, skip)
-
-  skip-no : earlier l b c ≡ false → skip l b (c ∷ cs) ≡ c ∷ cs
-  unfolding skip
-  skip-no e = rw (e, skip)
 
 module _ (l b d : ℕ) (up : b ≤ d) where
   -- what lies before a beat lies before a later one
@@ -49,10 +39,6 @@ module _ (l b d : ℕ) (up : b ≤ d) where
 -- ---- the last cells up to a place
 
 module _ (s : List ℕ) (end : ℕ) where
-  length-last : (k : ℕ) → length (lastCells s end k) ≡ k
-  unfolding lastCells
-  length-last k = length-cells k _
-
   -- a search that goes past o cells finds the same from there on
   search-from : (l b o r gap : ℕ) → 6 * (gap + o) ≤ end → r < o → lastCells s end r ≡ skip l b (lastCells s end (gap + o))
       → lastCells s end r ≡ skip l b (lastCells s end o)
@@ -73,7 +59,7 @@ module _ (s : List ℕ) (end : ℕ) where
       go true f next = next (e ∙ ap (skip l b) first ∙ skip-yes l b c (lastCells s end (gap + o)) f)
       go false f next =
           let stays : lastCells s end r ≡ lastCells s end (suc gap + o) = e ∙ ap (skip l b) first ∙ skip-no l b c (lastCells s end (gap + o)) f ∙ sym first in
-          absurd (omega (arith, ap length stays, length-last r, length-last (suc gap + o)))
+          absurd (omega (arith, ap length stays, length-last s end r, length-last s end (suc gap + o)))
 
   -- the search for a later beat may go on from the place that is further on
   pub goes-on : (l b d c r o : ℕ) → b ≤ d → 6 * c ≤ end → o ≤ c → lastCells s end r ≡ skip l b (lastCells s end c)

@@ -11,9 +11,9 @@ use Rattle.model.specs.Session.{shelfAt}
 use Rattle.model.specs.Takes.{Take, noteWords, cellWords, wordsUsed, notesOf, wordsOf}
 use Rattle.model.specs.Questions.{takeAt}
 use Rattle.model.specs.declared.Header.{Header}
+use Rattle.laws.specs.Sessions.{length-note-words, length-cell-words}
 use Rattle.session.specs.Framing.{framed}
 use Rattle.session.specs.Reading.{lastCells}
-use Rattle.session.proofs.Frames.{length-notes, length-cells}
 use Rattle.cuts.specs.declared.halves.Half.{Half}
 use Rattle.cuts.specs.declared.halves.Contents.{Contents}
 use Rattle.cuts.specs.declared.halves.Ends.{Ends}
@@ -109,11 +109,11 @@ module _ {s : List ℕ} {h : Header} {a b : Half} {i j k : ℕ} (q : BothAsks s 
 
       left-noted : Noted s (l + 3) (notesOf h lefts) s' (middle .left)
       unfolding s'
-      left-noted = record { words = refl; behind = notes-put .left-behind ∙ omega (arith, length-notes (notesOf h lefts)) }
+      left-noted = record { words = refl; behind = notes-put .left-behind ∙ omega (arith, length-note-words (notesOf h lefts)) }
 
       right-noted : Noted s' (m + 3) (notesOf h rights) s₁ (middle .right)
       unfolding s'
-      right-noted = record { words = notes-put .words; behind = notes-put .right-behind ∙ omega (arith, length-notes (notesOf h rights)) }
+      right-noted = record { words = notes-put .words; behind = notes-put .right-behind ∙ omega (arith, length-note-words (notesOf h rights)) }
 
       long' : length s' ≡ length s
       unfolding s'
@@ -150,10 +150,10 @@ module _ {s : List ℕ} {h : Header} {a b : Half} {i j k : ℕ} (q : BothAsks s 
         cells-put = rw (left-cells-now, right-cells-now) at made
 
         left-end : end .left ≡ middle .left + 6 * length (lefts .cells)
-        left-end = cells-put .left-behind ∙ omega (arith, length-cells (lefts .cells))
+        left-end = cells-put .left-behind ∙ omega (arith, length-cell-words (lefts .cells))
 
         right-end : end .right ≡ middle .right + 6 * length (rights .cells)
-        right-end = cells-put .right-behind ∙ omega (arith, length-cells (rights .cells))
+        right-end = cells-put .right-behind ∙ omega (arith, length-cell-words (rights .cells))
 
         long₂ : length s₂ ≡ length s
         long₂ =
@@ -187,17 +187,17 @@ module _ {s : List ℕ} {h : Header} {a b : Half} {i j k : ℕ} (q : BothAsks s 
         cs = gather cellWords (rights .cells)
 
         notes-free : Apart (m + 3) (length ns) l (h .words)
-        notes-free = right-behind-left ns (omega arith) (omega (arith, length-notes (notesOf h rights), room ra))
+        notes-free = right-behind-left ns (omega arith) (omega (arith, length-note-words (notesOf h rights), room ra))
 
         cells-free : Apart (middle .right) (length cs) l (h .words)
-        cells-free = right-behind-left cs (omega (arith, right-noted .behind)) (omega (arith, right-noted .behind, length-cells (rights .cells), room ra))
+        cells-free = right-behind-left cs (omega (arith, right-noted .behind)) (omega (arith, right-noted .behind, length-cell-words (rights .cells), room ra))
 
         by-turns : s₂ ≡ splice (splice y (m + 3) ns) (middle .right) cs
         unfolding y
         by-turns =
             let ls = gather cellWords (lefts .cells) in
             let free : Apart (m + 3) (length ns) (middle .left) (length ls) =
-            apart-within (middle .left) (length ls) notes-free (omega (arith, left-noted .behind)) (omega (arith, left-noted .behind, length-cells (lefts .cells), room la)) in
+            apart-within (middle .left) (length ls) notes-free (omega (arith, left-noted .behind)) (omega (arith, left-noted .behind, length-cell-words (lefts .cells), room la)) in
             cells-put .words
             ∙ ap (λ (x : List ℕ). splice (splice x (middle .left) ls) (middle .right) cs) (right-noted .words)
             ∙ ap (λ (x : List ℕ). splice x (middle .right) cs) (splice-comm s' (m + 3) ns (middle .left) ls free)

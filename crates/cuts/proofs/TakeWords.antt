@@ -14,9 +14,10 @@ use Rattle.model.specs.Takes.{Take, noteWords, cellWords, wordsUsed, notesOf, w
 use Rattle.model.specs.Questions.{fits}
 use Rattle.model.specs.declared.Header.{Header}
 use Rattle.model.specs.declared.Note.{Note}
+use Rattle.laws.specs.Sessions.{length-note-words}
 use Rattle.session.specs.Framing.{framed}
 use Rattle.session.specs.Reading.{lastCells}
-use Rattle.session.proofs.Frames.{shelf-framed, length-notes}
+use Rattle.session.proofs.Frames.{shelf-framed}
 use Rattle.cuts.specs.declared.halves.Contents.{Contents}
 use Rattle.cuts.specs.Making.{Made}
 use Rattle.cuts.specs.Halving.{Noted, Placed}
@@ -26,7 +27,7 @@ use Rattle.cuts.proofs.Passes.{cells-agree}
 pub cells-still : {s s₁ : List ℕ} {from : Contents} {to middle : ℕ} (ns : List Note) → Placed s from to (4 * length ns) → Noted s to ns s₁ middle
     → lastCells s₁ (from .end) (from .cells) ≡ lastCells s (from .end) (from .cells)
 cells-still {s} {s₁} {from} {to} ns p noted =
-    let same : Same s₁ s (p .low) (from .end - p .low) = rw (noted .words) (splice-same s to (gather noteWords ns) (p .apart) (omega (arith, length-notes ns))) in
+    let same : Same s₁ s (p .low) (from .end - p .low) = rw (noted .words) (splice-same s to (gather noteWords ns) (p .apart) (omega (arith, length-note-words ns))) in
     cells-agree s₁ s (from .end) (from .end) (from .cells) (omega (arith, p .cells-in)) (omega (arith, p .cells-in))
     (λ k pos upto. same .at (from .end - k) (omega (arith, p .cells-in)) (omega (arith, p .cells-in)))
 

@@ -19,12 +19,13 @@ use Rattle.laws.specs.Healing.{notes-again, laid-words}
 use Rattle.laws.specs.OneNote.{Valid}
 use Rattle.laws.specs.Reading.{read-notes}
 use Rattle.laws.specs.Relations.{All, all-imp}
+use Rattle.laws.specs.Sessions.{length-note-words}
 use Rattle.midi.specs.Reading.{readTrack}
 use Rattle.midi.proofs.Ranges.{Fits, ok-fits}
 use Rattle.midi.proofs.Recordings.{track-sound}
 use Rattle.midi.proofs.SecondPass.{first-all}
 use Rattle.session.specs.Framing.{framed}
-use Rattle.session.proofs.Frames.{length-notes, shelf-framed}
+use Rattle.session.proofs.Frames.{shelf-framed}
 use Rattle.session.proofs.Readings.{notes-written}
 use Rattle.session.proofs.Sources.{place-asks, shelf-inside}
 use Rattle.cuts.specs.Making.{Made, CellsAsks, cellsAt}
@@ -91,7 +92,7 @@ module _ {s : List ℕ} {h : Header} {shelf : ℕ} {track counts : List ℕ} {be
     again : readNotes notes (drop (at + 3) s₁) ≡ ns
     again =
         let e : readNotes (length ns) (drop (at + 3) (splice s (at + 3) (gather noteWords ns))) ≡ readNotes (length ns) (gather noteWords ns) =
-        notes-written (length ns) s (at + 3) (gather noteWords ns) (length-notes ns) (omega (arith, length-notes ns, a .notes-are, sized, place)) in
+        notes-written (length ns) s (at + 3) (gather noteWords ns) (length-note-words ns) (omega (arith, length-note-words ns, a .notes-are, sized, place)) in
         let f : readNotes (length ns) (gather noteWords ns) ≡ ns = rw append-nil at (read-notes ns []) in
         ap (λ (k : ℕ). readNotes k (drop (at + 3) s₁)) (a .notes-are) ∙ ap (λ (l : List ℕ). readNotes (length ns) (drop (at + 3) l)) notes-in ∙ e ∙ f
 

@@ -1,6 +1,6 @@
 -- Load: the number and the words, by the way that the call goes. Assumes nothing.
 use mathlib.Core.Bool.{Bool, true, false, cond, not}
-use mathlib.Core.List.{List, [], _∷_}
+use mathlib.Core.List.{List, []}
 use mathlib.Core.Path.{_≡_, refl, sym, ap, _∙_}
 use Prim.Native.Nat.{ℕ, zero, suc, _+_, _-_, _≤_, _<_}
 use native.Mathlib.Omega.{arith}
@@ -16,6 +16,7 @@ use Rattle.model.specs.Session.{headerOf, wordsOfHeader}
 use Rattle.model.specs.Takes.{wordsUsed}
 use Rattle.model.specs.declared.Header.{Header}
 use Rattle.model.proofs.Headers.{InRange, in-range}
+use Rattle.laws.specs.Accepted.{asked-first}
 use Rattle.laws.specs.Booleans.{and-right}
 use Rattle.laws.specs.Healing.{notes-again}
 use Rattle.laws.specs.OneNote.{Valid}
@@ -53,17 +54,12 @@ number-refused : (h : Header) (q : ℕ) → answerNumber h (refused q) ≡ q
 unfolding answerNumber firstNo fileQuestions
 number-refused h q = refl
 
-one : (b : Bool) → firstNo ((8, b) ∷ []) ≡ cond b 0 8
-unfolding firstNo
-one true = refl
-one false = refl
-
 -- 8 by the numbers of notes and cells
 read-is : (h : Header) (r : Recording) → 0 < h .delta → Valid (h .delta) r
     → answerNumber h (read r) ≡ cond (leb (wordsUsed (length (r .notes)) (length (gather (cellsOfNote (h .delta)) (r .notes)))) (h .words)) 0 8
-unfolding answerNumber fileQuestions fits recordingTake
+unfolding answerNumber firstNo fileQuestions fits recordingTake
 read-is h r z v =
-    one (fits h (recordingTake (h .delta) r))
+    asked-first 8 (fits h (recordingTake (h .delta) r)) []
     ∙ ap (λ (n : ℕ). cond (leb (wordsUsed n (length (gather (cellsOfNote (h .delta)) (r .notes)))) (h .words)) 0 8) (ap length (notes-again h z r (v .1)))
 
 -- ---- the track
@@ -157,19 +153,13 @@ track-inside δ s e = rw (← e) at (place-inside δ s)
 abbrev pub Loaded : List ℕ → ℕ → List ℕ → ℕ → List ℕ → Type 0
 Loaded s i file number after = (number ≡ loadNumber s i file) × (after ≡ loadAfter s i file)
 
-two : (a b : Bool) (qs : List (ℕ × Bool)) → firstNo ((1, a) ∷ (2, b) ∷ qs) ≡ cond a (cond b (firstNo qs) 2) 1
-unfolding firstNo
-two true true qs = refl
-two true false qs = refl
-two false b qs = refl
-
 module _ (s : List ℕ) (i : ℕ) (file : List ℕ) where
   abbrev g : Header
   g = headerOf s
 
   load-is : loadNumber s i file ≡ cond (headerOk g (length s)) (cond (ltb i (g .shelves)) (answerNumber g (readFile (g .delta) file)) 2) 1
   unfolding loadNumber loadQuestions answerNumber
-  load-is = two (headerOk g (length s)) (ltb i (g .shelves)) (fileQuestions g (readFile (g .delta) file))
+  load-is = rw (asked-first, asked-first)
 
   loaded-refused : (q : ℕ) → loadNumber s i file ≡ q → 0 < q → Loaded s i file q s
   unfolding loadAfter

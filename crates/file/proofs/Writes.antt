@@ -9,12 +9,13 @@ use borrow.Author.Tests.{lt-ltb, lt-leb, not-true, not-false}
 use lib.Dec.{leb, ltb}
 use lib.ListN.{length, take, drop, length-append}
 use Rattle.words.specs.Splice.{splice}
-use Rattle.model.specs.Questions.{headerOk, firstNo}
+use Rattle.model.specs.Questions.{headerOk}
 use Rattle.model.specs.Session.{headerOf, wordsOfHeader, shelf, shelfAt}
 use Rattle.model.specs.Soundness.{soundShelf}
 use Rattle.model.specs.Takes.{word, notesIn}
 use Rattle.model.specs.declared.Header.{Header}
 use Rattle.model.proofs.Headers.{InRange, in-range}
+use Rattle.laws.specs.Accepted.{asked-in-turn}
 use Rattle.midi.specs.Writing.{headerBytes, trackBytes, fileBytes}
 use Rattle.session.proofs.Entries.{Entered}
 use Rattle.session.proofs.Sources.{part-is, part-long}
@@ -40,21 +41,13 @@ module _ (s : List ℕ) (i : ℕ) (out : List ℕ) where
   unfolding writeCount writeOutput
   wrote-done e f g = (e, (rw (writeCount, ← e) f, rw (writeOutput, ← e) g))
 
-four : (a b c d : Bool) → firstNo ((1, a) ∷ (2, b) ∷ (4, c) ∷ (15, d) ∷ []) ≡ cond a (cond b (cond c (cond d 0 15) 4) 2) 1
-unfolding firstNo
-four true true true true = refl
-four true true true false = refl
-four true true false d = refl
-four true false c d = refl
-four false b c d = refl
-
 module _ (s : List ℕ) (i room : ℕ) where
   abbrev g : Header
   g = headerOf s
 
   number-is : writeNumber s i room ≡ cond (headerOk g (length s)) (cond (ltb i (g .shelves)) (cond (soundShelf g (shelf g s i)) (cond (fileFits s i room) 0 15) 4) 2) 1
   unfolding writeNumber writeQuestions
-  number-is = four (headerOk g (length s)) (ltb i (g .shelves)) (soundShelf g (shelf g s i)) (fileFits s i room)
+  number-is = asked-in-turn ((1, headerOk g (length s)) ∷ (2, ltb i (g .shelves)) ∷ (4, soundShelf g (shelf g s i)) ∷ (15, fileFits s i room) ∷ [])
 
 -- ---- refused by question 1 or 2
 

@@ -3,7 +3,6 @@ use mathlib.Core.Path.{_≡_, refl, sym, ap, _∙_}
 use mathlib.Core.Bool.{Bool, true, false}
 use mathlib.Core.List.{List, [], _++_}
 use Prim.Native.Nat.{ℕ, zero, suc, _+_, _-_, _*_, _/_, _%_, _≤_, _<_}
-use native.Mathlib.Nat.{mul-le-mul}
 use native.Mathlib.Omega.{arith}
 use borrow.Author.Tests.{le-leb, lt-leb, eq-eqb, ne-eqb, leb-true}
 use lib.Dec.{leb}
@@ -127,9 +126,6 @@ put-first l p n e fits = let z : 0 + length p ≡ n = omega arith in sym (rw z a
 -- the words that are there already
 pub put-same : (l : List ℕ) (n : ℕ) → n ≤ length l → l ≡ splice l 0 (take n l)
 put-same l n fits = sym (take-append-drop n l) ∙ put-first l (take n l) n (length-take-le n l fits) fits
-
-pub product-fits : (a b : ℕ) → a ≤ 4294967295 → b ≤ 4294967295 → a * b ≤ 18446744065119617025
-product-fits a b h k = mul-le-mul h k
 
 length-fresh : (h : Header) → length (freshWords h) ≡ sessionLength h
 unfolding freshWords

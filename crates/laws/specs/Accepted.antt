@@ -1,8 +1,8 @@
 -- Each accepted call, in the session and in the plain machine: open, lay, split and join.
 -- Assumes nothing.
-use mathlib.Core.Bool.{Bool, _&&_, false, true}
+use mathlib.Core.Bool.{Bool, _&&_, cond, false, true}
 use mathlib.Core.List.{List, [], _++_, _∷_}
-use mathlib.Core.Path.{_≡_, refl}
+use mathlib.Core.Path.{_∙_, _≡_, ap, refl}
 use Prim.Native.Nat.{_%_, _+_, _<_, _≤_, ℕ}
 use native.Mathlib.Omega.{arith}
 use lib.Dec.{eqb, leb, ltb}
@@ -18,6 +18,24 @@ use Rattle.model.specs.declared.Header.{Header}
 use Rattle.laws.specs.Booleans.{and-left, and-right}
 use Rattle.laws.specs.OneNote.{Valid}
 use Rattle.laws.specs.Relations.{All, all-imp, every-all}
+
+-- ---- questions one after the other
+
+-- the number by the first of them and the others
+pub asked-first : (n : ℕ) (b : Bool) (qs : List (ℕ × Bool)) → firstNo ((n, b) ∷ qs) ≡ cond b (firstNo qs) n
+unfolding firstNo
+asked-first n true qs = refl
+asked-first n false qs = refl
+
+-- and by all of them
+abbrev pub inTurn : List (ℕ × Bool) → ℕ
+inTurn [] = 0
+inTurn (q ∷ qs) = cond (q .1) (inTurn qs) (q .0)
+
+pub asked-in-turn : (qs : List (ℕ × Bool)) → firstNo qs ≡ inTurn qs
+unfolding firstNo
+asked-in-turn [] = refl
+asked-in-turn (q ∷ qs) = asked-first (q .0) (q .1) qs ∙ ap (λ (k : ℕ). cond (q .1) k (q .0)) (asked-in-turn qs)
 
 -- ---- questions that are all answered yes
 

@@ -3,16 +3,6 @@
 use mathlib.Core.Bool.{Bool, _&&_, _||_, false, true, true≢false}
 use mathlib.Core.Path.{_≡_, refl, sym}
 
-pub and-comm : (a b : Bool) → a && b ≡ b && a
-and-comm true true = refl
-and-comm true false = refl
-and-comm false true = refl
-and-comm false false = refl
-
-pub and-same : (a : Bool) → a && a ≡ a
-and-same true = refl
-and-same false = refl
-
 pub and-left : (a b : Bool) → a && b ≡ true → a ≡ true
 and-left true b e = refl
 and-left false b e = e
@@ -34,10 +24,6 @@ or-left b e = rw e
 pub or-right : (a : Bool) {b : Bool} → b ≡ true → a || b ≡ true
 or-right true e = refl
 or-right false e = e
-
-pub or-false : (a : Bool) → a || false ≡ a
-or-false true = refl
-or-false false = refl
 
 pub mid : (a : Bool) {b : Bool} (c d : Bool) → b ≡ false → a && b && c && d ≡ false
 mid true c d e = rw e

@@ -1,6 +1,6 @@
 -- The notes of the cells of some beats, against the notes of all cells: one law for whatever cuts notes at a line.
 -- Assumes nothing.
-use mathlib.Core.Bool.{Bool, _&&_, _||_, cond, false, true, true≢false}
+use mathlib.Core.Bool.{Bool, _&&_, _||_, cond, false, or-false, true, true≢false}
 use mathlib.Core.List.{List, [], _++_, _∷_}
 use mathlib.Core.Path.{_∙_, _≡_, ap, refl, sym}
 use Prim.Native.Nat.{_*_, _<_, _≤_, suc, ℕ}
@@ -12,12 +12,12 @@ use Rattle.model.specs.Soundness.{filled}
 use Rattle.model.specs.declared.Cell.{Cell}
 use Rattle.model.specs.declared.Header.{Header}
 use Rattle.model.specs.declared.Note.{Note}
-use Rattle.laws.specs.Booleans.{and-left, and-no, or-false, or-right}
+use Rattle.laws.specs.Booleans.{and-left, and-no, or-right}
 use Rattle.laws.specs.Counting.{Edge, down, meets, no-skip}
 use Rattle.laws.specs.Lines.{close-end, meet-line}
 use Rattle.laws.specs.Order.{walk-fair}
 use Rattle.laws.specs.Relations.{All, Pairs, all-keep}
-use Rattle.laws.specs.Rules.{Pair, Pieced, double, fill-close-alone, fill-open-alone, meet-open, open-free, own, pair-fills, pair-filled, single, span, stop}
+use Rattle.laws.specs.Rules.{Opening, Pair, Pieced, bound-opening, double, fill-close-alone, fill-open-alone, open-free, own, pair-fills, pair-filled, single, span, stop}
 use Rattle.laws.specs.Solid.{Apart, Fine}
 use Rattle.laws.specs.Spans.{Spans, spans-double, spans-single}
 use Rattle.laws.specs.Walk.{walk, walk-double, walk-single}
@@ -245,20 +245,11 @@ module _ (H : Header) (beats : ℕ) (z : 0 < (H .delta)) (le : (H .epsilon) ≤ 
         → AtSeam cut c x r n m
 
   module _ (cut : Note → List Note) (k : Cuts cut) where
-    -- The first cell, if it goes on from the one before it, is an opening cell.
-    abbrev Opening : List Cell → Type 0
-    Opening [] = ⊥
-    Opening (c ∷ cs) = opening c ≡ true
-
     abbrev Law : List Cell → Type 0
     Law cs = (held : Bool) → (held ≡ true → Opening cs) → walk H (firstKept cs && held) (keep q cs) ≡ gather cut (walk H held cs)
 
     law-unheld : (cs : List Cell) → Law cs → walk H false (keep q cs) ≡ gather cut (walk H false cs)
     law-unheld cs l = let i = l false (λ h. absurd (true≢false (sym h))) in rw (and-no (firstKept cs) false refl) at i
-
-    bound-opening : (x : Cell) (cs : List Cell) → boundNext H x cs ≡ true → Opening cs
-    bound-opening x [] e = absurd (unfold boundNext in true≢false (sym e))
-    bound-opening x (r ∷ rs) e = meet-open x r (next-opens x r rs e)
 
     kept-shown : (n : Note) (ns : List Note) (shown : Bool) → cut n ≡ n ∷ []
         → cond shown (n ∷ gather cut ns) (gather cut ns) ≡ gather cut (cond shown (n ∷ ns) ns)
@@ -314,7 +305,7 @@ module _ (H : Header) (beats : ℕ) (z : 0 < (H .delta)) (le : (H .epsilon) ≤ 
             law-unheld (r ∷ rs) ih ∙ rw (s .2 .behind .unheld, s .2 .behind .held, l .1) (on (standsAlone H r) (s .0) (s .1) (l .0))
         go true g false u =
             let s = seam c x cs n r rs f g in
-            let i : walk H (q r && true) (keep q (r ∷ rs)) ≡ gather cut (walk H true (r ∷ rs)) = ih true (λ h. bound-opening x (r ∷ rs) g) in
+            let i : walk H (q r && true) (keep q (r ∷ rs)) ≡ gather cut (walk H true (r ∷ rs)) = ih true (λ h. bound-opening H x (r ∷ rs) g) in
             ap (λ (t : Bool). walk H t (keep q (r ∷ rs))) (sym (rw u)) ∙ i ∙ rw (s .2 .behind .held, k .seams (s .2) .dropped-dropped e u)
         go false g t u = law-unheld (r ∷ rs) ih ∙ dropped-shown n (walk H false (r ∷ rs)) shown (k .ends f .dropped-end e)
 
@@ -324,7 +315,7 @@ module _ (H : Header) (beats : ℕ) (z : 0 < (H .delta)) (le : (H .epsilon) ≤ 
         go : (b : Bool) → q c ≡ b → walk H (b && held) (keep q (c ∷ cs)) ≡ gather cut (walk H held (c ∷ cs))
         go true e =
             f .kept e held
-            ∙ rw (bound-kept x rest (f .apart-last) (f .behind .all-apart), ih (boundNext H x rest) (bound-opening x rest)) (kept-put c x cs rest n f e held o)
+            ∙ rw (bound-kept x rest (f .apart-last) (f .behind .all-apart), ih (boundNext H x rest) (bound-opening H x rest)) (kept-put c x cs rest n f e held o)
             ∙ ap (gather cut) (sym (f .walks held))
         go false e = ap (walk H false) (f .dropped e) ∙ dropped-put c x cs rest n f e (standsAlone H x || held) ih ∙ ap (gather cut) (sym (f .walks held))
 

@@ -26,7 +26,7 @@ use Rattle.laws.specs.Cutting.{Found, by-all, by-before, by-behind, clos
 use Rattle.laws.specs.Joining.{back-note}
 use Rattle.laws.specs.Lists.{gather-same, map-gather, map-keep}
 use Rattle.laws.specs.Moving.{solid-left, solid-right}
-use Rattle.laws.specs.Notes.{Fair, Follow, Long, above, later, note-same, ok-pairs}
+use Rattle.laws.specs.Notes.{Fair, Follow, Long, follow-lane, note-same, ok-pairs}
 use Rattle.laws.specs.Order.{aways, line-fair, line-pairs, solid-notes}
 use Rattle.laws.specs.Relations.{All, Pairs, all-consIf, all-imp, all-kept, pairs-imp}
 use Rattle.laws.specs.Rules.{moved-alone, own}
@@ -131,14 +131,7 @@ module _ (H : Header) (z : 0 < (H .delta)) (le : (H .epsilon) ≤ (H .delta)) (t
   cells-are p Known a = record { in-pieces = s .cells-pieced; all-fine = s .cells-fine; all-apart = s .cells-apart; all-known = a }
 
   note-lanes : Pairs (λ n m. n .lane ≤ m .lane) (notesOf H t)
-  note-lanes = pairs-imp Follow (λ n m. n .lane ≤ m .lane) (notesOf H t) up (ok-pairs (H .delta) (t .beats) (notesOf H t) (solid-notes H z le t s))
-    where
-      up : (n m : Note) → Follow n m → n .lane ≤ m .lane
-      up n m (above a) = omega arith
-      up n m (later a b) = omega arith
-
-  line-is : lineNotes H (t .cells) ≡ walk H false (t .cells)
-  line-is = line-walk H le (s .cells-pieced)
+  note-lanes = pairs-imp Follow (λ n m. n .lane ≤ m .lane) (notesOf H t) follow-lane (ok-pairs (H .delta) (t .beats) (notesOf H t) (solid-notes H z le t s))
 
   fair-long : (ns : List Note) → All (Fair (H .delta) (t .beats)) ns → All Long ns
   fair-long ns a = all-imp (Fair (H .delta) (t .beats)) Long ns (λ n f. f .order) a
@@ -205,7 +198,7 @@ module _ (H : Header) (z : 0 < (H .delta)) (le : (H .epsilon) ≤ (H .delta)) (t
         line-walk H le ((solid-left (H .delta) z t s k) .cells-pieced)
         ∙ walk-keep H (t .beats) z le (λ b. ltb b k) (Found at (k - 1) 1) (leftBy H k at) (left-cuts H (t .beats) z le k at)
         (cells-are (λ b. ltb b k) (Found at (k - 1) 1) a)
-        ∙ ap (gather (leftBy H k at)) (sym line-is)
+        ∙ ap (gather (leftBy H k at)) (sym (line-walk H le (s .cells-pieced)))
 
     right-lines : All (Found at k 0) (t .cells) → lineNotes H ((splitRight (H .delta) k t) .cells) ≡ gather (rightBy H k at) (lineNotes H (t .cells))
     unfolding splitRight rightOf
@@ -217,7 +210,7 @@ module _ (H : Header) (z : 0 < (H .delta)) (le : (H .epsilon) ≤ (H .delta)) (t
         (walk-keep H (t .beats) z le (λ b. leb k b) (Found at k 0) (stayBy H k at) (right-cuts H (t .beats) z le k at) (cells-are (λ b. leb k b) (Found at k 0) a))
         ∙ map-gather (back H k) (stayBy H k at) (walk H false (t .cells))
         ∙ gather-same (λ n. map (back H k) (stayBy H k at n)) (rightBy H k at) (walk H false (t .cells)) (stay-back H k at)
-        ∙ ap (gather (rightBy H k at)) (sym line-is)
+        ∙ ap (gather (rightBy H k at)) (sym (line-walk H le (s .cells-pieced)))
 
     -- the notes of a half, by whatever finds the cells on the line
     pub left-by : All (Found at (k - 1) 1) (t .cells) → notesOf H (splitLeft (H .delta) k t) ≡ gather (leftBy H k at) (notesOf H t)

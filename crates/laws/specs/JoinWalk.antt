@@ -16,7 +16,7 @@ use Rattle.model.specs.declared.Note.{Note}
 use Rattle.laws.specs.JoinLanes.{join-notes, joinLanes}
 use Rattle.laws.specs.Joining.{cell-lanes}
 use Rattle.laws.specs.Lists.{gather-count, gather-none}
-use Rattle.laws.specs.Notes.{Fair, Follow, above, fair-notes, later, ok-pairs}
+use Rattle.laws.specs.Notes.{Fair, Follow, fair-notes, follow-lane, ok-pairs}
 use Rattle.laws.specs.Order.{solid-notes}
 use Rattle.laws.specs.Relations.{All, Pairs, all-imp, keep-no, pairs-imp}
 use Rattle.laws.specs.Seam.{joinLane}
@@ -297,14 +297,10 @@ module _ (H : Header) (z : 0 < (H .delta)) (le : (H .epsilon) ≤ (H .delta)) (t
   notes-from v w =
       let ok = solid-notes H z le v w in
       record {
-        sorted = pairs-imp Follow (λ n m. n .lane ≤ m .lane) (notesOf H v) up (ok-pairs (H .delta) (v .beats) (notesOf H v) ok);
+        sorted = pairs-imp Follow (λ n m. n .lane ≤ m .lane) (notesOf H v) follow-lane (ok-pairs (H .delta) (v .beats) (notesOf H v) ok);
         above = all-imp (Fair (H .delta) (v .beats)) (λ n. 0 ≤ n .lane) (notesOf H v) (λ n f. omega arith) (fair-notes (H .delta) (v .beats) (notesOf H v) ok);
         below = all-imp (Fair (H .delta) (v .beats)) (λ n. n .lane < 2048) (notesOf H v) (λ n f. f .lane-below) (fair-notes (H .delta) (v .beats) (notesOf H v) ok);
       }
-    where
-      up : (n m : Note) → Follow n m → n .lane ≤ m .lane
-      up n m (above a) = omega arith
-      up n m (later a b) = omega arith
 
   cells-from : (v : Take) → Solid (H .delta) v → From (λ c. c .lane) 0 (v .cells)
   cells-from v w = record {

@@ -14,7 +14,7 @@ use Rattle.model.specs.declared.Header.{Header}
 use Rattle.model.specs.declared.Note.{Note}
 use Rattle.laws.specs.Lanes.{length-mergeLane, merge-lane, mergeLane}
 use Rattle.laws.specs.Lists.{length-map}
-use Rattle.laws.specs.Notes.{Fair, Follow, above, later, note-same}
+use Rattle.laws.specs.Notes.{Fair, Follow, follow-lane, note-same}
 use Rattle.laws.specs.Relations.{All, Pairs, all-imp, pairs-imp}
 use Rattle.laws.specs.Solid.{Apart, Fine, Solid, beat-up, lane-up, side-up}
 use Rattle.laws.specs.Walk.{line-from, walkFrom}
@@ -44,11 +44,7 @@ module _ (δ : ℕ) (t : Take) (s : Solid δ t) where
       up c d (side-up a b o p i) = omega arith
 
   note-lanes : Pairs (λ n m. n .lane ≤ m .lane) (t .inner) × All (λ n. n .lane < 2048) (t .inner)
-  note-lanes = (pairs-imp Follow (λ n m. n .lane ≤ m .lane) (t .inner) up (s .notes-apart), all-imp (Fair δ (t .beats)) (λ n. n .lane < 2048) (t .inner) (λ n f. f .lane-below) (s .notes-fair))
-    where
-      up : (n m : Note) → Follow n m → n .lane ≤ m .lane
-      up n m (above a) = omega arith
-      up n m (later a b) = omega arith
+  note-lanes = (pairs-imp Follow (λ n m. n .lane ≤ m .lane) (t .inner) follow-lane (s .notes-apart), all-imp (Fair δ (t .beats)) (λ n. n .lane < 2048) (t .inner) (λ n f. f .lane-below) (s .notes-fair))
 
 module _ (δ : ℕ) (t u : Take) (s : Solid δ t) (r : Solid δ u) where
   -- a join's cells, and its inner notes, by one walk over both

@@ -1,6 +1,6 @@
 -- Lists in the order of lanes.
 -- Assumes nothing.
-use mathlib.Core.Bool.{Bool, _&&_, false, true}
+use mathlib.Core.Bool.{Bool, _&&_, and-self, false, true}
 use mathlib.Core.List.{List, [], _++_, _∷_, append-nil, map}
 use mathlib.Core.Logic.{_≢_}
 use mathlib.Core.Path.{_∙_, _≡_, ap, ap₂, refl, sym}
@@ -12,7 +12,6 @@ use lib.ListN.{length}
 use borrow.Author.Tests.{eq-eqb, eqb-true, leb-false, leb-true, ne-eqb}
 use Rattle.model.specs.Lists.{countFrom, gather, keep}
 use Rattle.model.specs.Takes.{byLane, lanes}
-use Rattle.laws.specs.Booleans.{and-same}
 use Rattle.laws.specs.Lists.{gather-count, gather-one, gather-same, keep-append, keep-ext, keep-gather, keep-keep, keep-map, keep-same, keep-swap, map-gather}
 use Rattle.laws.specs.Relations.{All, Pairs, all-all, all-append, all-count, all-gather, all-imp, all-keep, all-kept, bucket-step, buckets, keep-no, pairs-append, pairs-keep}
 
@@ -43,7 +42,7 @@ module _ {A : Type 0} (lane : A → ℕ) where
       keep-gather (λ x. eqb (lane x) l) (λ m. keep (λ x. eqb (lane x) m) xs) lanes
       ∙ gather-one (λ m. keep (λ x. eqb (lane x) l) (keep (λ x. eqb (lane x) m) xs)) 2048 0 l (omega arith) (omega arith)
       (λ m d. keep-keep (λ x. eqb (lane x) l) (λ x. eqb (lane x) m) xs ∙ keep-same _ false xs (λ x. two-lanes (lane x) m l d))
-      ∙ keep-keep (λ x. eqb (lane x) l) (λ x. eqb (lane x) l) xs ∙ keep-ext _ _ xs (λ x. and-same (eqb (lane x) l))
+      ∙ keep-keep (λ x. eqb (lane x) l) (λ x. eqb (lane x) l) xs ∙ keep-ext _ _ xs (λ x. and-self (eqb (lane x) l))
 
   -- to order the parts first changes nothing
   pub byLane-append : (xs ys : List A) → byLane lane (byLane lane xs ++ byLane lane ys) ≡ byLane lane (xs ++ ys)

@@ -1,6 +1,6 @@
 -- Lists by a Boolean test, and counted lists.
 -- Assumes nothing.
-use mathlib.Core.Bool.{Bool, _&&_, cond, false, true}
+use mathlib.Core.Bool.{Bool, _&&_, and-comm, cond, false, true}
 use mathlib.Core.List.{List, [], _++_, _∷_, append-assoc, append-nil, map}
 use mathlib.Core.Logic.{_≢_}
 use mathlib.Core.Path.{_∙_, _≡_, ap, refl, sym}
@@ -9,7 +9,6 @@ use native.Mathlib.Decide.{ℕ-discrete}
 use native.Mathlib.Omega.{arith}
 use lib.ListN.{getD, length, set}
 use Rattle.model.specs.Lists.{consIf, countFrom, gather, keep}
-use Rattle.laws.specs.Booleans.{and-comm}
 
 module _ {A : Type 0} where
   consIf-append : (b : Bool) (x : A) (xs ys : List A) → consIf b x xs ++ ys ≡ consIf b x (xs ++ ys)

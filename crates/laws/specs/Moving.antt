@@ -8,7 +8,7 @@ use native.Mathlib.Decide.{decLe, ℕ-discrete}
 use native.Mathlib.Nat.{div-add-mod', mul-le-mul-right}
 use native.Mathlib.Omega.{arith}
 use lib.Dec.{eqb, leb, ltb}
-use lib.ListN.{getD, length}
+use lib.ListN.{getD}
 use borrow.Author.Tests.{eqb-true, leb-true, ltb-true}
 use Rattle.model.specs.Binding.{fills}
 use Rattle.model.specs.Histories.{Recording, historyTake, placed, takeOf}
@@ -323,7 +323,3 @@ module _ (δ : ℕ) (z : 0 < δ) where
     pub solid-history : (h : List (ℕ × ℕ)) → Solid δ (historyTake δ recordings h)
     solid-history [] = unfold historyTake placed in solid-none 0
     solid-history (p ∷ h) = subst (Solid δ) (join-takes δ z recordings (p ∷ []) h) (solid-join (historyTake δ recordings (p ∷ [])) (historyTake δ recordings h) (solid-pair p) (solid-history h))
-
-    history-beats : (h : List (ℕ × ℕ)) → (historyTake δ recordings h) .beats ≡ length h
-    unfolding historyTake
-    history-beats h = refl

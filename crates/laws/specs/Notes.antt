@@ -54,6 +54,11 @@ pub data Follow (m n : Note) : Type 0 where
   above : m .lane < n .lane → Follow m n
   later : m .lane ≡ n .lane → m .end ≤ n .start → Follow m n
 
+-- notes that follow each other rise in lanes
+pub follow-lane : (m n : Note) → Follow m n → m .lane ≤ n .lane
+follow-lane m n (above a) = omega arith
+follow-lane m n (later a b) = omega arith
+
 pub follow : (m n : Note) → follows m n ≡ true → Follow m n
 unfolding follows
 follow m n e = go (ltb (m .lane) (n .lane)) refl e

@@ -1,6 +1,6 @@
 -- What the binding rules give: the three facts that all else uses, and cells as pieces.
 -- Assumes nothing.
-use mathlib.Core.Bool.{Bool, _&&_, _||_, cond, false, not, true, true≢false}
+use mathlib.Core.Bool.{Bool, _&&_, _||_, cond, false, not, or-false, true, true≢false}
 use mathlib.Core.List.{List, [], _∷_}
 use mathlib.Core.Path.{_≡_, refl, sym}
 use Prim.Native.Nat.{_+_, _<_, _≤_, suc, ℕ}
@@ -13,7 +13,7 @@ use Rattle.model.specs.Takes.{cellTo}
 use Rattle.model.specs.declared.Cell.{Cell}
 use Rattle.model.specs.declared.Header.{Header}
 use Rattle.model.specs.declared.Note.{Note}
-use Rattle.laws.specs.Booleans.{and-left, and-right, and-yes, mid, or-false, or-left, or-right}
+use Rattle.laws.specs.Booleans.{and-left, and-right, and-yes, mid, or-left, or-right}
 
 -- ---- the facts about the rules that all else uses: no other file looks into standing alone or binding
 
@@ -21,6 +21,17 @@ pub meet-open : (d r : Cell) → meet d r ≡ true → opening r ≡ true
 unfolding meet
 meet-open d r e =
     and-right (eqb (d .lane) (r .lane) && eqb (d .side) 1) (eqb (r .side) 0) (and-left (eqb (d .lane) (r .lane) && eqb (d .side) 1 && eqb (r .side) 0) (eqb (r .beat) (suc (d .beat))) e)
+
+-- The first cell opens its beat.
+abbrev pub Opening : List Cell → Type 0
+Opening [] = ⊥
+Opening (c ∷ cs) = opening c ≡ true
+
+-- so it does where the cell before it is bound to it
+pub bound-opening : (H : Header) (x : Cell) (cs : List Cell) → boundNext H x cs ≡ true → Opening cs
+unfolding boundNext
+bound-opening H x [] e = absurd (true≢false (sym e))
+bound-opening H x (r ∷ rs) e = meet-open x r (and-left (meet x r) (bound H x r) e)
 
 -- a cell at its note's end, or start, stands alone
 pub close-alone : (H : Header) (d : Cell) → d .side ≡ 1 → d .after ≡ 0 → standsAlone H d ≡ true

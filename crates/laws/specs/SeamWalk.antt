@@ -1,6 +1,6 @@
 -- The notes of two lists of cells, one behind the other, from the notes of each; and the notes of cells some beats later.
 -- Assumes nothing.
-use mathlib.Core.Bool.{Bool, _&&_, _||_, cond, false, true, true≢false}
+use mathlib.Core.Bool.{Bool, _&&_, _||_, cond, false, or-false, true, true≢false}
 use mathlib.Core.List.{List, [], _++_, _∷_, map}
 use mathlib.Core.Path.{_∙_, _≡_, ap, ap₂, refl, sym}
 use Prim.Native.Nat.{_*_, _+_, _-_, _<_, _≤_, suc, ℕ}
@@ -9,18 +9,18 @@ use native.Mathlib.Nat.{add-mul}
 use native.Mathlib.Omega.{arith}
 use lib.Dec.{eqb}
 use borrow.Author.Tests.{eq-eqb, eqb-true, leb-false, ne-eqb}
-use Rattle.model.specs.Binding.{bound, boundNext, endOf, fills, goOn, meet, opening, standsAlone, startOf}
+use Rattle.model.specs.Binding.{boundNext, endOf, fills, goOn, meet, opening, standsAlone, startOf}
 use Rattle.model.specs.Lists.{consIf}
 use Rattle.model.specs.Soundness.{filled}
 use Rattle.model.specs.Takes.{cellTo}
 use Rattle.model.specs.declared.Cell.{Cell}
 use Rattle.model.specs.declared.Header.{Header}
 use Rattle.model.specs.declared.Note.{Note}
-use Rattle.laws.specs.Booleans.{and-left, or-false, or-right}
+use Rattle.laws.specs.Booleans.{or-right}
 use Rattle.laws.specs.CutLines.{joined, put}
 use Rattle.laws.specs.Notes.{note-same}
 use Rattle.laws.specs.Relations.{All}
-use Rattle.laws.specs.Rules.{Pair, Pieced, double, fill-close-alone, fill-open-alone, meet-open, moved-alone, moved-bound, open-free, own, pair-close, pair-filled, pair-fills, pair-open, single, span, stop}
+use Rattle.laws.specs.Rules.{Opening, Pair, Pieced, bound-opening, double, fill-close-alone, fill-open-alone, moved-alone, moved-bound, open-free, own, pair-close, pair-filled, pair-fills, pair-open, single, span, stop}
 use Rattle.laws.specs.Walk.{walk, walk-double, walk-single}
 
 -- ---- some beats later
@@ -126,11 +126,6 @@ module _ {A : Type 0} where
   last-all P x [] a = a .0
   last-all P x (y ∷ ys) a = last-all P y ys (a .1)
 
--- The first cell opens its beat.
-abbrev Opening : List Cell → Type 0
-Opening [] = ⊥
-Opening (c ∷ cs) = opening c ≡ true
-
 module _ (H : Header) (le : (H .epsilon) ≤ (H .delta)) where
   -- The notes of d ∷ ds, where d is an opening cell: `note` and then `rest` if d goes on from a cell before it; else `note` is there if d stands alone.
   pub record Opened (d : Cell) (ds : List Cell) : Type 0 where
@@ -169,12 +164,6 @@ module _ (H : Header) (le : (H .epsilon) ≤ (H .delta)) where
       go true [] t u = made (span (H .delta) c d) [] t u refl
       go true (n ∷ ns) t u = made (joined (span (H .delta) c d) n) ns t u refl
       go false ns t u = made (span (H .delta) c d) ns t u refl
-
-  -- cells that a bound cell goes on in have a first note
-  bound-opening : (x : Cell) (cs : List Cell) → boundNext H x cs ≡ true → Opening cs
-  unfolding boundNext
-  bound-opening x [] e = absurd (true≢false (sym e))
-  bound-opening x (r ∷ rs) e = meet-open x r (and-left (meet x r) (bound H x r) e)
 
   -- Notes are there.
   abbrev Some : List Note → Type 0
@@ -219,14 +208,14 @@ module _ (H : Header) (le : (H .epsilon) ≤ (H .delta)) where
     free-walk (single {c = c} {cs = cs} f g p) e held o =
         let b = boundNext H c cs in
         walk-single H c (cs ++ bs) held f
-        ∙ rw (free-next c cs e, free-walk p (free-more c cs e) b (bound-opening c cs))
-        (put-append (own (H .delta) c) b (standsAlone H c || held) (walk H b cs) (walk H false bs) (λ t. rw t (some-held p (bound-opening c cs t))))
+        ∙ rw (free-next c cs e, free-walk p (free-more c cs e) b (bound-opening H c cs))
+        (put-append (own (H .delta) c) b (standsAlone H c || held) (walk H b cs) (walk H false bs) (λ t. rw t (some-held p (bound-opening H c cs t))))
         ∙ ap (λ (ns : List Note). ns ++ walk H false bs) (sym (walk-single H c cs held f))
     free-walk (double {c = c} {d = d} {cs = cs} q p) e held o =
         let b = boundNext H d cs in
         walk-double H c d (cs ++ bs) held q
-        ∙ rw (free-next d cs e, free-walk p (free-more d cs e) b (bound-opening d cs))
-        (put-append (span (H .delta) c d) b true (walk H b cs) (walk H false bs) (λ t. rw t (some-held p (bound-opening d cs t))))
+        ∙ rw (free-next d cs e, free-walk p (free-more d cs e) b (bound-opening H d cs))
+        (put-append (span (H .delta) c d) b true (walk H b cs) (walk H false bs) (λ t. rw t (some-held p (bound-opening H d cs t))))
         ∙ ap (λ (ns : List Note). ns ++ walk H false bs) (sym (walk-double H c d cs held q))
 
     -- the last cell is not bound to the first of bs: the notes of both
@@ -284,9 +273,9 @@ module _ (H : Header) (le : (H .epsilon) ≤ (H .delta)) where
       goes (single {c = c} {cs = r ∷ rs} f g p) e w held o =
           let b = boundNext H c (r ∷ rs) in
           more-goes held (lastOr r rs) (c ∷ r ∷ rs) (r ∷ rs) (own (H .delta) c) b (standsAlone H c || held)
-          (λ t. rw t (some-held p (bound-opening c (r ∷ rs) t)))
+          (λ t. rw t (some-held p (bound-opening H c (r ∷ rs) t)))
           (walk-single H c (r ∷ rs ++ bs) held f ∙ unfold boundNext in refl) (walk-single H c (r ∷ rs) held f)
-          (goes p e w b (bound-opening c (r ∷ rs)))
+          (goes p e w b (bound-opening H c (r ∷ rs)))
       goes (double {c = c} {d = d} {cs = []} q p) e w held o =
           let a : standsAlone H d ≡ true = fill-close-alone H le d (pair-filled (H .delta) c d q) in
           last-goes held d (c ∷ d ∷ []) (span (H .delta) c d) true (sym a) refl (λ i. absurd (true≢false (sym a ∙ i)))
@@ -294,9 +283,9 @@ module _ (H : Header) (le : (H .epsilon) ≤ (H .delta)) where
       goes (double {c = c} {d = d} {cs = r ∷ rs} q p) e w held o =
           let b = boundNext H d (r ∷ rs) in
           more-goes held (lastOr r rs) (c ∷ d ∷ r ∷ rs) (r ∷ rs) (span (H .delta) c d) b true
-          (λ t. rw t (some-held p (bound-opening d (r ∷ rs) t)))
+          (λ t. rw t (some-held p (bound-opening H d (r ∷ rs) t)))
           (walk-double H c d (r ∷ rs ++ bs) held q ∙ unfold boundNext in refl) (walk-double H c d (r ∷ rs) held q)
-          (goes p e w b (bound-opening d (r ∷ rs)))
+          (goes p e w b (bound-opening H d (r ∷ rs)))
 
       -- the last cell is bound to the first of bs
       pub walk-bound : {c : Cell} {cs : List Cell} → Pieced (H .delta) (c ∷ cs) → boundNext H (lastOr c cs) bs ≡ true → walk H true bs ≡ m ∷ ms

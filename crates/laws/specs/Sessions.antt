@@ -115,11 +115,11 @@ fresh-session H = ap (λ (l : List ℕ). wordsOfHeader H ++ l) (sym (zero-flat (
 
 -- ---- the length of a take's words
 
-length-note-words : (ns : List Note) → length (gather noteWords ns) ≡ 4 * length ns
+pub length-note-words : (ns : List Note) → length (gather noteWords ns) ≡ 4 * length ns
 length-note-words [] = refl
 length-note-words (n ∷ ns) = let e = length-note-words ns in omega arith
 
-length-cell-words : (cs : List Cell) → length (gather cellWords cs) ≡ 6 * length cs
+pub length-cell-words : (cs : List Cell) → length (gather cellWords cs) ≡ 6 * length cs
 length-cell-words [] = refl
 length-cell-words (c ∷ cs) = let e = length-cell-words cs in omega arith
 

@@ -1,6 +1,6 @@
 -- The notes of cells by one walk over them; bound pieces, and pieces that fill their beat, are shown.
 -- Assumes nothing.
-use mathlib.Core.Bool.{Bool, _||_, cond, false, true, true≢false}
+use mathlib.Core.Bool.{Bool, _||_, cond, false, or-false, true, true≢false}
 use mathlib.Core.List.{List, [], _∷_}
 use mathlib.Core.Option.{Option, none, some}
 use mathlib.Core.Path.{_∙_, _≡_, ap, refl, sym}
@@ -10,7 +10,7 @@ use Rattle.model.specs.Binding.{Piece, boundNext, endOf, fills, firstShown, goO
 use Rattle.model.specs.declared.Cell.{Cell}
 use Rattle.model.specs.declared.Header.{Header}
 use Rattle.model.specs.declared.Note.{Note}
-use Rattle.laws.specs.Booleans.{and-yes, or-false, or-left, or-right}
+use Rattle.laws.specs.Booleans.{and-yes, or-left, or-right}
 use Rattle.laws.specs.Rules.{Pair, Pieced, double, fill-close-alone, fill-open-alone, not-open, own, pair-close, pair-filled, pair-fills, single, span, step-fill, step-single, stop}
 
 -- The cell's piece goes on in the next cell: they are one piece, or bound.

@@ -10,7 +10,7 @@ use Rattle.model.specs.Limits.{velocityOk}
 use Rattle.model.specs.Soundness.{notesOk}
 use Rattle.model.specs.declared.Note.{Note}
 use Rattle.laws.specs.Booleans.{and-left, and-right, and-yes}
-use Rattle.laws.specs.Notes.{Fair, Follow, above, later, fair-notes, pairs-ok}
+use Rattle.laws.specs.Notes.{Fair, Follow, fair-notes, pairs-ok}
 use Rattle.laws.specs.Relations.{All, Pairs, all-imp}
 
 -- A note in range that ends at a tick or before it.
@@ -23,11 +23,6 @@ pub record Fits (top : ℕ) (n : Note) : Type 0 where
 
 pub fits-later : (t u : ℕ) → t ≤ u → (n : Note) → Fits t n → Fits u n
 fits-later t u h n f = record { low = f .low; long = f .long; within = omega (arith, f .within); loud = f .loud; soft = f .soft }
-
--- Notes that follow each other rise in lanes.
-pub follow-lane : (m n : Note) → Follow m n → m .lane ≤ n .lane
-follow-lane m n (above h) = omega arith
-follow-lane m n (later h k) = omega arith
 
 module _ (δ beats : ℕ) where
   fair-fits : (n : Note) → Fair δ beats n → Fits (beats * δ) n

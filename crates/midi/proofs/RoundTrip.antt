@@ -15,7 +15,7 @@ use Rattle.model.specs.Takes.{byLane, word, notesIn, takeIn}
 use Rattle.model.specs.declared.Header.{Header}
 use Rattle.model.specs.declared.Note.{Note}
 use Rattle.laws.specs.Lists.{gather-count, gather-none}
-use Rattle.laws.specs.Notes.{Follow, ok-pairs}
+use Rattle.laws.specs.Notes.{Follow, follow-lane, ok-pairs}
 use Rattle.laws.specs.Order.{solid-notes}
 use Rattle.laws.specs.Sound.{sound-beats, sound-notes, sound-solid}
 use Rattle.laws.specs.Relations.{All, Pairs, all-imp, all-keep, all-kept, buckets, pairs-imp}
@@ -29,7 +29,7 @@ use Rattle.midi.proofs.Files.{track-read}
 use Rattle.midi.proofs.Loops.{trackAfter, chunk-step}
 use Rattle.midi.proofs.NoteEvents.{steps, lane-in-order}
 use Rattle.midi.proofs.Playing.{laneNotes, rests, Good, Before, Done, play-lanes}
-use Rattle.midi.proofs.Ranges.{Fits, follow-lane, ok-fits}
+use Rattle.midi.proofs.Ranges.{Fits, ok-fits}
 use Rattle.midi.proofs.Replay.{playAll, answerAt, Steps, run-play}
 use Rattle.midi.proofs.Tables.{shaped-new, lane-new}
 

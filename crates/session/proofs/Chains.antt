@@ -1,20 +1,20 @@
 -- The first cells of those up to a place: are they linked, shown, clear of a note, and in order? One law for each way out of the code.
 -- Assumes nothing.
 use mathlib.Core.Path.{_≡_, refl, sym, ap, _∙_}
-use mathlib.Core.Bool.{Bool, true, false, not, _&&_, and-false}
+use mathlib.Core.Bool.{Bool, true, false, not, _&&_, and-false, or-false}
 use mathlib.Core.List.{List, [], _∷_}
 use Prim.Native.Nat.{ℕ, zero, suc, _+_, _*_, _-_, _≤_, _<_}
 use native.Mathlib.Omega.{arith}
 use borrow.Author.Tests.{not-true, not-false, eq-eqb, ne-eqb}
-use lib.Dec.{eqb, leb}
+use lib.Dec.{leb}
 use Rattle.model.specs.Binding.{standsAlone, boundNext, meet, bound, fills}
 use Rattle.model.specs.Lists.{every}
 use Rattle.model.specs.Soundness.{filled}
 use Rattle.model.specs.declared.Header.{Header}
 use Rattle.model.specs.declared.Note.{Note}
 use Rattle.model.specs.declared.Cell.{Cell}
-use Rattle.laws.specs.Booleans.{or-false}
 use Rattle.laws.specs.Chain.{cellOk, neighbours, cellsChain, cellsSound, clear}
+use Rattle.laws.specs.Rules.{open-free}
 use Rattle.laws.specs.Sweep.{clearTwo}
 use Rattle.laws.specs.Walk.{linked}
 use Rattle.session.specs.Reading.{cellAt, lastCells}
@@ -24,14 +24,9 @@ use Rattle.session.proofs.Lasts.{no-cells, cons}
 -- ---- lists of cells
 
 module _ (h : Header) (c : Cell) where
-  opens-bound : c .side ≡ 0 → (cs : List Cell) → boundNext h c cs ≡ false
-  unfolding boundNext meet
-  opens-bound e [] = refl
-  opens-bound e (d ∷ ds) = rw (ne-eqb (c .side) 1 (λ f. omega arith), and-false (eqb (c .lane) (d .lane)))
-
   opens-linked : c .side ≡ 0 → (cs : List Cell) → linked h c cs ≡ leb (h .delta) (c .after)
   unfolding linked fills
-  opens-linked e cs = rw (opens-bound e cs, eq-eqb (c .side) 0 e) (or-false (leb (h .delta) (c .after)))
+  opens-linked e cs = rw (open-free h c cs e, eq-eqb (c .side) 0 e) (or-false (leb (h .delta) (c .after)))
 
   closes-linked : (c .side ≡ 0 → ⊥) → (cs : List Cell) → linked h c cs ≡ boundNext h c cs
   unfolding linked fills

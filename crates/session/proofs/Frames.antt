@@ -3,13 +3,14 @@ use mathlib.Core.Path.{_≡_, refl, sym, ap, _∙_}
 use mathlib.Core.List.{List, [], _∷_, _++_}
 use Prim.Native.Nat.{ℕ, _+_, _*_, _-_}
 use native.Mathlib.Omega.{arith}
-use lib.ListN.{length, replicate, length-append}
+use lib.ListN.{length, replicate}
 use Rattle.words.specs.Apart.{Apart.ahead}
 use Rattle.words.specs.Splice.{splice, splice-append, splice-append-last, splice-comm}
 use Rattle.model.specs.Lists.{gather}
 use Rattle.model.specs.Takes.{noteWords, cellWords, wordsUsed, shelfWords}
 use Rattle.model.specs.declared.Note.{Note}
 use Rattle.model.specs.declared.Cell.{Cell}
+use Rattle.laws.specs.Sessions.{length-note-words, length-cell-words}
 use Rattle.session.specs.Framing.{framed}
 
 -- head and zeros, as the code writes them
@@ -20,19 +21,6 @@ unfolding framed
 frame-done s at W beats N C s₁ e₁ s₂ e₂ =
     let z : at + W - (at + wordsUsed N C) ≡ W - wordsUsed N C = omega arith in
     e₂ ∙ rw (z, e₁)
-
--- ---- words of notes and of cells
-
-module _ {A : Type 0} (ws : A → List ℕ) (w : ℕ) (size : (x : A) → length (ws x) ≡ w) where
-  pub length-gather : (xs : List A) → length (gather ws xs) ≡ w * length xs
-  length-gather [] = omega arith
-  length-gather (x ∷ xs) = omega (arith, length-append (ws x) (gather ws xs), size x, length-gather xs)
-
-pub length-notes : (ns : List Note) → length (gather noteWords ns) ≡ 4 * length ns
-length-notes ns = length-gather noteWords 4 (λ x. refl) ns
-
-pub length-cells : (cs : List Cell) → length (gather cellWords cs) ≡ 6 * length cs
-length-cells cs = length-gather cellWords 6 (λ x. refl) cs
 
 -- ---- four runs behind one another, the first and the last written last
 
@@ -54,4 +42,4 @@ unfolding framed shelfWords
 shelf-framed s at W beats ns cs =
     four-runs s at (beats ∷ length ns ∷ length cs ∷ []) (gather noteWords ns) (gather cellWords cs)
     (replicate (W - wordsUsed (length ns) (length cs)) 0) (at + 3) (at + 3 + 4 * length ns) (at + wordsUsed (length ns) (length cs))
-    refl (omega (arith, length-notes ns)) (omega (arith, length-cells cs))
+    refl (omega (arith, length-note-words ns)) (omega (arith, length-cell-words cs))

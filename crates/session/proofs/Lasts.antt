@@ -6,12 +6,14 @@ use Prim.Native.Nat.{ℕ, zero, suc, _+_, _*_, _-_, _≤_, _<_}
 use native.Mathlib.Nat.{add-zero}
 use native.Mathlib.Omega.{arith}
 use borrow.Author.Tests.{not-true, not-false}
-use lib.ListN.{drop}
+use lib.ListN.{length, drop}
 use lib.Seq.{getD-drop, drop-drop}
 use Rattle.model.specs.Takes.{readNotes, readCells}
 use Rattle.model.specs.declared.Header.{Header}
 use Rattle.model.specs.declared.Cell.{Cell}
+use Rattle.laws.specs.Reading.{length-cells}
 use Rattle.laws.specs.Sweep.{earlier, skip}
+use Rattle.laws.specs.Walk.{linked}
 use Rattle.session.specs.Reading.{noteAt, cellAt, lastNotes, lastCells}
 use Rattle.session.specs.Running.{firstLinked, firstShown, fromShown, fromLast}
 use Rattle.session.proofs.Readings.{notes-cons}
@@ -31,6 +33,10 @@ module _ (ws : List ℕ) (end : ℕ) where
   pub no-cells : lastCells ws end 0 ≡ []
   unfolding lastCells readCells
   no-cells = refl
+
+  pub length-last : (k : ℕ) → length (lastCells ws end k) ≡ k
+  unfolding lastCells
+  length-last k = length-cells k _
 
   pub last-notes : (k : ℕ) → 0 < k → 4 * k ≤ end → lastNotes ws end k ≡ noteAt ws (end - 4 * k) ∷ lastNotes ws end (k - 1)
   unfolding lastNotes
@@ -52,30 +58,30 @@ module _ (ws : List ℕ) (end : ℕ) where
 
 -- A search through a list: it goes past the first element, or stops at it.
 module _ (l b : ℕ) (c : Cell) (cs : List Cell) where
-  skip-yes : earlier l b c ≡ true → skip l b (c ∷ cs) ≡ skip l b cs
+  pub skip-yes : earlier l b c ≡ true → skip l b (c ∷ cs) ≡ skip l b cs
   unfolding skip
   skip-yes e = rw (e, skip)
 
-  skip-no : earlier l b c ≡ false → skip l b (c ∷ cs) ≡ c ∷ cs
+  pub skip-no : earlier l b c ≡ false → skip l b (c ∷ cs) ≡ c ∷ cs
   unfolding skip
   skip-no e = rw (e, skip)
 
-module _ (h : Header) where
-  shown-no : (cs : List Cell) (c : Cell) (ds : List Cell) → cs ≡ c ∷ ds → firstShown h cs ≡ false → fromShown h cs ≡ fromShown h ds
+module _ (h : Header) (c : Cell) (cs : List Cell) where
+  shown-no : firstShown h (c ∷ cs) ≡ false → fromShown h (c ∷ cs) ≡ fromShown h cs
   unfolding firstShown fromShown
-  shown-no cs c ds is e = rw is (rw (rw is at e, fromShown))
+  shown-no e = rw (e, fromShown)
 
-  shown-yes : (cs : List Cell) (c : Cell) (ds : List Cell) → cs ≡ c ∷ ds → firstShown h cs ≡ true → fromShown h cs ≡ cs
+  shown-yes : firstShown h (c ∷ cs) ≡ true → fromShown h (c ∷ cs) ≡ c ∷ cs
   unfolding firstShown fromShown
-  shown-yes cs c ds is e = rw is (rw (rw is at e, fromShown))
+  shown-yes e = rw (e, fromShown)
 
-  link-yes : (cs : List Cell) (c : Cell) (ds : List Cell) → cs ≡ c ∷ ds → firstLinked h cs ≡ true → fromLast h cs ≡ fromLast h ds
-  unfolding firstLinked fromLast
-  link-yes cs c ds is e = rw is (rw (rw is at e, fromLast))
+  pub link-yes : linked h c cs ≡ true → fromLast h (c ∷ cs) ≡ fromLast h cs
+  unfolding fromLast
+  link-yes e = rw (e, fromLast)
 
-  link-no : (cs : List Cell) (c : Cell) (ds : List Cell) → cs ≡ c ∷ ds → firstLinked h cs ≡ false → fromLast h cs ≡ cs
-  unfolding firstLinked fromLast
-  link-no cs c ds is e = rw is (rw (rw is at e, fromLast))
+  pub link-no : linked h c cs ≡ false → fromLast h (c ∷ cs) ≡ c ∷ cs
+  unfolding fromLast
+  link-no e = rw (e, fromLast)
 
 module _ (ws : List ℕ) (end k : ℕ) (some : 0 < k) (fits : 6 * k ≤ end) where
   pub cons : {c : Cell} → c ≡ cellAt ws (end - 6 * k) → lastCells ws end k ≡ c ∷ lastCells ws end (k - 1)
@@ -90,16 +96,18 @@ module _ (ws : List ℕ) (end k : ℕ) (some : 0 < k) (fits : 6 * k ≤ end) whe
 
   module _ (h : Header) {p : Bool} where
     pub shown-past : p ≡ firstShown h (lastCells ws end k) → p ≡ false → fromShown h (lastCells ws end (k - 1)) ≡ fromShown h (lastCells ws end k)
-    shown-past e t = sym (shown-no h _ _ _ (cons refl) (sym e ∙ t))
+    shown-past e t = rw (cons refl) (sym (shown-no h _ _ (sym (rw (cons refl) at e) ∙ t)))
 
     pub shown-stop : p ≡ firstShown h (lastCells ws end k) → p ≡ true → lastCells ws end k ≡ fromShown h (lastCells ws end k)
-    shown-stop e t = sym (shown-yes h _ _ _ (cons refl) (sym e ∙ t))
+    shown-stop e t = rw (cons refl) (sym (shown-yes h _ _ (sym (rw (cons refl) at e) ∙ t)))
 
     pub link-past : p ≡ firstLinked h (lastCells ws end k) → not p ≡ false → fromLast h (lastCells ws end (k - 1)) ≡ fromLast h (lastCells ws end k)
-    link-past e t = sym (link-yes h _ _ _ (cons refl) (sym e ∙ not-false p t))
+    unfolding firstLinked
+    link-past e t = rw (cons refl) (sym (link-yes h _ _ (sym (rw (cons refl) at e) ∙ not-false p t)))
 
     pub link-stop : p ≡ firstLinked h (lastCells ws end k) → not p ≡ true → lastCells ws end k ≡ fromLast h (lastCells ws end k)
-    link-stop e t = sym (link-no h _ _ _ (cons refl) (sym e ∙ not-true p t))
+    unfolding firstLinked
+    link-stop e t = rw (cons refl) (sym (link-no h _ _ (sym (rw (cons refl) at e) ∙ not-true p t)))
 
 module _ (ws : List ℕ) (end : ℕ) where
   pub skip-end : (l b k : ℕ) → k ≤ 0 → lastCells ws end 0 ≡ skip l b (lastCells ws end k)

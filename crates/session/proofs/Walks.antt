@@ -21,6 +21,7 @@ use Rattle.laws.specs.Sweep.{skip, clearTwo, sweep}
 use Rattle.laws.specs.Walk.{linked, grown, walkFrom}
 use Rattle.session.specs.Checking.{givenBy, standing}
 use Rattle.session.specs.Running.{fromShown, fromLast, noteOfRun, sameNote}
+use Rattle.session.proofs.Lasts.{link-yes, link-no}
 
 -- ---- one run
 
@@ -104,22 +105,14 @@ module _ (h : Header) where
       go true f k = sym (eqb-true _ _ (and-left _ _ (and-left _ _ (and-left _ _ (and-left _ _ (and-left _ _ (and-left _ _ (rw f at (and-right (cellBefore c d) _ e)))))))))
       go false f k = sym (eqb-true _ _ (and-left _ _ (and-left _ _ (and-left _ _ (and-left _ _ k)))))
 
-  goes-on : (c : Cell) (cs : List Cell) → linked h c cs ≡ true → fromLast h (c ∷ cs) ≡ fromLast h cs
-  unfolding fromLast
-  goes-on c cs l = rw (l, fromLast)
-
-  ends : (c : Cell) (cs : List Cell) → linked h c cs ≡ false → fromLast h (c ∷ cs) ≡ c ∷ cs
-  unfolding fromLast
-  ends c cs l = rw (l, fromLast)
-
   pub run-lane : (c : Cell) (cs : List Cell) → cellsChain (h .delta) c cs ≡ true → (d : Cell) (ds : List Cell) → fromLast h (c ∷ cs) ≡ d ∷ ds → d .lane ≡ c .lane
   unfolding cellsChain linked boundNext
-  run-lane c [] s d ds e = let l : linked h c [] ≡ false = rw (not-true (fills (h .delta) c) s) in ap (λ (x : Cell). x .lane) (head-eq-of-cons-eq (sym e ∙ ends c [] l))
+  run-lane c [] s d ds e = let l : linked h c [] ≡ false = rw (not-true (fills (h .delta) c) s) in ap (λ (x : Cell). x .lane) (head-eq-of-cons-eq (sym e ∙ link-no h c [] l))
   run-lane c (x ∷ xs) s d ds e = go (linked h c (x ∷ xs)) refl (run-lane x xs (and-right (neighbours (h .delta) c x) (cellsChain (h .delta) x xs) s) d ds)
     where
       go : (t : Bool) → linked h c (x ∷ xs) ≡ t → (fromLast h (x ∷ xs) ≡ d ∷ ds → d .lane ≡ x .lane) → d .lane ≡ c .lane
-      go true l ih = ih (sym (goes-on c (x ∷ xs) l) ∙ e) ∙ linked-lane c x xs (and-left (neighbours (h .delta) c x) (cellsChain (h .delta) x xs) s) l
-      go false l ih = ap (λ (y : Cell). y .lane) (head-eq-of-cons-eq (sym e ∙ ends c (x ∷ xs) l))
+      go true l ih = ih (sym (link-yes h c (x ∷ xs) l) ∙ e) ∙ linked-lane c x xs (and-left (neighbours (h .delta) c x) (cellsChain (h .delta) x xs) s) l
+      go false l ih = ap (λ (y : Cell). y .lane) (head-eq-of-cons-eq (sym e ∙ link-no h c (x ∷ xs) l))
 
 -- ---- a note beside the cells
 

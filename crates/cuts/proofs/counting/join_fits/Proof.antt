@@ -1,21 +1,21 @@
 -- `cuts::counting::join_fits` meets its contract. Assumes nothing.
 use native.Mathlib.Omega.{arith}
-use Rattle.cuts.proofs.HalfWords.{read, place-asks, contents-asks}
+use Rattle.cuts.proofs.HalfWords.{read, contents-asks}
 use Rattle.cuts.proofs.JoinWords.{first-read, second-read, range}
 use Rattle.cuts.proofs.JoinFits.{most-asks, fits-at-once, seams-asks, exact-asks, fits-counted}
-use Rattle.session.proofs.Sources.{inside-session, beats-is}
+use Rattle.session.proofs.Sources.{place-asks, inside-session, beats-is}
 use borrow.Author.Needs.{needs}
 use Rattle.cuts.proofs.counting.join_fits.Statement.{statement}
 use Rattle.cuts.proofs.counting.join_fits.Tie as tie
 
 shelf-at-requires : tie.Need-shelf-at-requires
-shelf-at-requires c κs = place-asks (first-read (c .before .pre .asks)) _ ((c .before .pre .asks) .first-below)
+shelf-at-requires c κs = place-asks (range (c .before .pre .asks)) ((c .before .pre .asks) .first-below)
 
 contents-at-requires : tie.Need-contents-at-requires
 contents-at-requires c κs = contents-asks (first-read (c .before .before .pre .asks)) (c .shelf-at .ensures)
 
 shelf-at-requires-2 : tie.Need-shelf-at-requires-2
-shelf-at-requires-2 c κs = place-asks (first-read (c .before .before .before .pre .asks)) _ ((c .before .before .before .pre .asks) .second-below)
+shelf-at-requires-2 c κs = place-asks (range (c .before .before .before .pre .asks)) ((c .before .before .before .pre .asks) .second-below)
 
 contents-at-requires-2 : tie.Need-contents-at-requires-2
 contents-at-requires-2 c κs = contents-asks (second-read (c .before .before .before .before .pre .asks)) (c .shelf-at2 .ensures)

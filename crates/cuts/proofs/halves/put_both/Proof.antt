@@ -1,22 +1,23 @@
 -- `cuts::halves::put_both` meets its contract. Assumes nothing.
 use native.Mathlib.Omega.{arith}
-use Rattle.cuts.proofs.HalfWords.{read, place-asks, contents-asks}
+use Rattle.session.proofs.Sources.{place-asks}
+use Rattle.cuts.proofs.HalfWords.{range, read, contents-asks}
 use Rattle.cuts.proofs.SplitWords.{notes-asks, cells-asks, left-counts, right-counts, both-put}
 use borrow.Author.Needs.{needs}
 use Rattle.cuts.proofs.halves.put_both.Statement.{statement}
 use Rattle.cuts.proofs.halves.put_both.Tie as tie
 
 shelf-at-requires : tie.Need-shelf-at-requires
-shelf-at-requires c κs = place-asks (c .before .before .pre .left-asks) _ (c .before .before .pre .left-asks .take-below)
+shelf-at-requires c κs = place-asks (range (c .before .before .pre .left-asks)) (c .before .before .pre .left-asks .take-below)
 
 contents-at-requires : tie.Need-contents-at-requires
 contents-at-requires c κs = contents-asks (c .before .before .before .pre .left-asks) (c .shelf-at .ensures)
 
 shelf-at-requires-2 : tie.Need-shelf-at-requires-2
-shelf-at-requires-2 c κs = place-asks (c .before .before .before .before .pre .left-asks) _ (c .before .before .before .before .pre .left-asks .to-below)
+shelf-at-requires-2 c κs = place-asks (range (c .before .before .before .before .pre .left-asks)) (c .before .before .before .before .pre .left-asks .to-below)
 
 shelf-at-requires-3 : tie.Need-shelf-at-requires-3
-shelf-at-requires-3 c κs = place-asks (c .before .before .before .before .before .pre .left-asks) _ (c .before .before .before .before .before .pre .right-asks .to-below)
+shelf-at-requires-3 c κs = place-asks (range (c .before .before .before .before .before .pre .left-asks)) (c .before .before .before .before .before .pre .right-asks .to-below)
 
 add-t16 : tie.Need-add-t16
 add-t16 c = omega (arith, notes-asks (c .before .before .before .before .before .before .pre) (read (c .before .before .before .before .before .before .pre .left-asks) (c .before .before .before .shelf-at .ensures) (c .before .before .contents-at .ensures)) (c .before .shelf-at2 .ensures) (c .shelf-at3 .ensures) .placed .left-room)

@@ -1,7 +1,8 @@
 -- `cuts::joined::put_joined` meets its contract. Assumes nothing.
 use native.Mathlib.Omega.{arith}
-use Rattle.cuts.proofs.HalfWords.{read, place-asks, contents-asks}
-use Rattle.cuts.proofs.JoinWords.{first-read, second-read}
+use Rattle.session.proofs.Sources.{place-asks}
+use Rattle.cuts.proofs.HalfWords.{read, contents-asks}
+use Rattle.cuts.proofs.JoinWords.{range, first-read, second-read}
 use Rattle.cuts.proofs.JoinedWords.{beats-room, notes-place, notes-asks, cells-asks, counted, frame-asks, join-put}
 use borrow.Author.Needs.{needs}
 use Rattle.cuts.proofs.joined.put_joined.Statement.{statement}
@@ -17,19 +18,19 @@ add-total : tie.Need-add-total
 add-total c = omega (arith, beats-room (c .before .before .before .before .before .pre) (c .before .before .beats-at .ensures) (c .beats-at2 .ensures))
 
 shelf-at-requires : tie.Need-shelf-at-requires
-shelf-at-requires c κs = place-asks (first-read (c .before .before .before .before .before .before .pre .asks)) _ ((c .before .before .before .before .before .before .pre .asks) .first-below)
+shelf-at-requires c κs = place-asks (range (c .before .before .before .before .before .before .pre .asks)) ((c .before .before .before .before .before .before .pre .asks) .first-below)
 
 contents-at-requires : tie.Need-contents-at-requires
 contents-at-requires c κs = contents-asks (first-read (c .before .before .before .before .before .before .before .pre .asks)) (c .shelf-at .ensures)
 
 shelf-at-requires-2 : tie.Need-shelf-at-requires-2
-shelf-at-requires-2 c κs = place-asks (first-read (c .before .before .before .before .before .before .before .before .before .pre .asks)) _ ((c .before .before .before .before .before .before .before .before .before .pre .asks) .second-below)
+shelf-at-requires-2 c κs = place-asks (range (c .before .before .before .before .before .before .before .before .before .pre .asks)) ((c .before .before .before .before .before .before .before .before .before .pre .asks) .second-below)
 
 contents-at-requires-2 : tie.Need-contents-at-requires-2
 contents-at-requires-2 c κs = contents-asks (second-read (c .before .before .before .before .before .before .before .before .before .before .pre .asks)) (c .shelf-at2 .ensures)
 
 shelf-at-requires-3 : tie.Need-shelf-at-requires-3
-shelf-at-requires-3 c κs = place-asks (first-read (c .before .before .before .before .before .before .before .before .before .before .before .pre .asks)) _ ((c .before .before .before .before .before .before .before .before .before .before .before .pre .asks) .to-below)
+shelf-at-requires-3 c κs = place-asks (range (c .before .before .before .before .before .before .before .before .before .before .before .pre .asks)) ((c .before .before .before .before .before .before .before .before .before .before .before .pre .asks) .to-below)
 
 add-put-joined-notes : tie.Need-add-put-joined-notes
 add-put-joined-notes c = omega (arith, notes-place (c .before .before .before .before .before .before .before .before .before .before .before .before .before .pre) (read (first-read (c .before .before .before .before .before .before .before .before .before .before .before .before .before .pre .asks)) (c .before .before .before .before .before .before .shelf-at .ensures) (c .before .before .before .before .before .contents-at .ensures)) (read (second-read (c .before .before .before .before .before .before .before .before .before .before .before .before .before .pre .asks)) (c .before .before .before .shelf-at2 .ensures) (c .before .before .contents-at2 .ensures)) (c .before .shelf-at3 .ensures) (c .before .before .before .before .before .before .before .before .before .before .beats-at .ensures))

@@ -1,7 +1,8 @@
 -- `frames::calls::open_session` meets its contract. Assumes nothing.
 use mathlib.Core.Path.{sym}
 use lib.Seq.{length-take-le}
-use Rattle.frames.proofs.Carried.{product-fits, open-large, open-kept, open-accepted}
+use Rattle.session.proofs.WaysOut.{product-fits}
+use Rattle.frames.proofs.Carried.{open-large, open-kept, open-accepted}
 use native.Mathlib.Omega.{arith}
 use borrow.Author.Needs.{needs}
 use Rattle.frames.proofs.calls.open_session.Statement.{statement}
