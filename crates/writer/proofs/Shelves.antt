@@ -21,8 +21,8 @@ use Rattle.midi.specs.Writing.{NoteEvent, noteEvent, eventsOf, order, inOrder, 
 use Rattle.midi.proofs.Sorting.{all-in-order}
 use Rattle.session.specs.Reading.{noteAt}
 use Rattle.track.specs.Keys.{keyOf, tickOf, eventOf}
+use Rattle.events.specs.Tracks.{trackLeft, Timed, Timed.over, Timed.next, TrackAsks}
 use Rattle.writer.specs.Files.{FileAsks, LanesBelow, Room}
-use Rattle.writer.specs.Tracks.{trackLeft, Timed, Timed.over, Timed.next, TrackAsks}
 use Rattle.writer.proofs.Keys.{each-note, each-pair, events-keys, all-differ, sort-keys}
 
 -- ---- events from their numbers

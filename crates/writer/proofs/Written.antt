@@ -16,8 +16,8 @@ use Rattle.midi.specs.Numbers.{word16Bytes, word32Bytes}
 use Rattle.midi.specs.Reading.{MThd, MTrk}
 use Rattle.midi.specs.Writing.{headerBytes, trackBytes, fileBytes}
 use Rattle.midi.proofs.Lengths.{track-most}
+use Rattle.events.specs.Tracks.{trackLeft}
 use Rattle.writer.specs.Files.{FileAsks, fileOf, countOf, outputOf}
-use Rattle.writer.specs.Tracks.{trackLeft}
 use Rattle.writer.proofs.Shelves.{track-is}
 
 pub header-length : (δ n : ℕ) → length (headerBytes δ n) ≡ 22

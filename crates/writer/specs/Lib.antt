@@ -1,9 +1,3 @@
--- The track and the file of a shelf's notes as the code writes them.
-pub mod Tracks
-pub mod Windows
+-- The file of a shelf's notes as the code writes it.
 pub mod Files
-pub mod Stored
-pub mod Emitting
-pub mod Bucketing
-pub mod Tight
 pub mod Wide

@@ -4,11 +4,11 @@ ghost use Prim.Native.Nat.{_+_, _*_, _≤_};
 ghost use lib.Dec.{leb};
 ghost use lib.ListN.{length, take};
 ghost use Rattle.words.specs.Splice.{splice};
+ghost use Rattle.events.specs.Tracks.{trackLeft};
+ghost use Rattle.events.specs.Windows.{TableAsks};
 ghost use Rattle.writer.specs.Files.{FileAsks, fileOf, countOf, outputOf};
-ghost use Rattle.writer.specs.Tracks.{trackLeft};
-ghost use Rattle.writer.specs.Windows.{TableAsks};
 use crate::files;
-use crate::windows;
+use events::windows;
 use track::putting;
 
 // Does the file of these events fit so many bytes? No note takes more than 14, so that they are counted only where that does not show it.

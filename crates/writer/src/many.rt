@@ -5,7 +5,7 @@ ghost use lib.ListN.{length};
 ghost use Rattle.order.specs.Events.{Ordered};
 ghost use Rattle.writer.specs.Files.{FileAsks, LanesBelow, Room, fileOf, countOf, outputOf};
 use crate::files;
-use crate::tracks;
+use events::tracks;
 
 // Enough lanes for the last note's, one at least.
 fn lanes_up_to(s: &[u32], count: usize) -> usize
