@@ -7,7 +7,7 @@ use Rattle.model.specs.Lists.{gather}
 use Rattle.model.specs.Pieces.{cellsOfNote}
 use Rattle.model.specs.Histories.{Recording}
 use Rattle.midi.specs.Reading.{FileAnswer, refused, read}
-use Rattle.file.specs.Counting.{refusal, recording, summary}
+use Rattle.reader.specs.Counting.{refusal, recording, summary}
 
 -- A recording with so many beats, notes and cells.
 pub record ReadAs (δ : ℕ) (a : FileAnswer) (beats notes cells : ℕ) : Type 0 where

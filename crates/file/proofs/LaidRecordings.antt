@@ -29,10 +29,10 @@ use Rattle.session.proofs.Frames.{shelf-framed}
 use Rattle.session.proofs.Readings.{notes-written}
 use Rattle.session.proofs.Sources.{place-asks, shelf-inside}
 use Rattle.cuts.specs.Making.{Made, CellsAsks, cellsAt}
+use Rattle.reader.specs.Placing.{countBelow, FirstPlaces, notesPut, NotesAsks}
+use Rattle.reader.proofs.Places.{below-first}
 use Rattle.file.specs.Calls.{loaded}
-use Rattle.file.specs.Placing.{countBelow, FirstPlaces, notesPut, NotesAsks}
 use Rattle.file.specs.Loading.{RecordingAsks}
-use Rattle.file.proofs.Places.{below-first}
 
 module _ {s : List ℕ} {h : Header} {shelf : ℕ} {track counts : List ℕ} {beats notes cells : ℕ} (a : RecordingAsks s h shelf track counts beats notes cells) where
   abbrev r : Recording

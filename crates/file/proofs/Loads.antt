@@ -27,13 +27,13 @@ use Rattle.midi.proofs.Recordings.{track-sound, Sound, refused-number}
 use Rattle.session.proofs.Entries.{Entered}
 use Rattle.session.specs.Entering.{entryOf, entryAsked}
 use Rattle.session.specs.declared.header.Entry.the-variants as entries
+use Rattle.reader.specs.Chunks.{TrackPlace, refusal, bytes, chunkPlace, trackPlace, readPlace}
+use Rattle.reader.specs.Counting.{recording, summary, Times, CountsOf}
+use Rattle.reader.specs.Counting as counts
+use Rattle.reader.proofs.ChunkLoops.{read-place}
 use Rattle.file.specs.Calls.{fileQuestions, loadQuestions, loadNumber, loaded, loadAfter}
-use Rattle.file.specs.Chunks.{TrackPlace, refusal, bytes, chunkPlace, trackPlace, readPlace}
-use Rattle.file.specs.Counting.{recording, summary, Times, CountsOf}
-use Rattle.file.specs.Counting as counts
 use Rattle.file.specs.Loading.{answerNumber, answerAfter, ShelfAsks, RecordingAsks}
 use Rattle.file.proofs.Answers.{ReadAs, refused-is, recording-is}
-use Rattle.file.proofs.ChunkLoops.{read-place}
 
 -- ---- the number of an answer, and the words
 

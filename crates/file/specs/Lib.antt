@@ -1,7 +1,3 @@
--- What load and write mean; what the code reads, counts and lays.
+-- What load and write mean; load by what the track is read as.
 pub mod Calls
-pub mod Chunks
-pub mod Counting
-pub mod CountingSteps
-pub mod Placing
 pub mod Loading

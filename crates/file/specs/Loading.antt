@@ -11,8 +11,8 @@ use Rattle.model.specs.Questions.{headerOk, firstNo}
 use Rattle.model.specs.Takes.{wordsUsed}
 use Rattle.model.specs.declared.Header.{Header}
 use Rattle.midi.specs.Reading.{FileAnswer, read, readTrack}
+use Rattle.reader.specs.Counting.{LanesCounted}
 use Rattle.file.specs.Calls.{fileQuestions, loaded}
-use Rattle.file.specs.Counting.{LanesCounted}
 
 -- The number of the first question, 9 to 14 and then 8, whose answer is no, or 0.
 unfoldable pub answerNumber : Header → FileAnswer → ℕ

@@ -1,6 +1,6 @@
 -- `file::loading::load_track` meets its contract. Assumes nothing.
 use Rattle.file.proofs.Loads.{times, room-asks, track-refused, track-full, track-room, track-asks, track-done}
-use Rattle.file.specs.Counting.{countedOf}
+use Rattle.reader.specs.Counting.{countedOf}
 use mathlib.Core.Path.{refl, sym, ap, _∙_}
 use native.Mathlib.Omega.{arith}
 use borrow.Author.Needs.{needs}

@@ -1,6 +1,6 @@
 -- `file::loading::take_load` meets its contract. Assumes nothing.
 use Rattle.file.proofs.Loads.{track-inside, load-refused, shelf-entered, load-misplaced, load-by-track}
-use Rattle.file.specs.Chunks.{placeOf}
+use Rattle.reader.specs.Chunks.{placeOf}
 use Rattle.session.proofs.Entries.{granted-means}
 use Rattle.session.specs.Entering.{entryOf}
 use mathlib.Core.Path.{sym, ap, _∙_}
