@@ -1,11 +1,15 @@
 /* The C library from a C program: the paper's example, every number that a call
  * returns, and that a refusal changes nothing. Built with the sanitizers; guard
- * words stand around every buffer. The last line is 'N passed, M failed'. */
+ * words stand around every buffer, or no memory behind it. The last line is
+ * 'N passed, M failed'. */
+#define _DEFAULT_SOURCE
 #include "zikorewi.h"
 
 #include <stdio.h>
 #include <stdlib.h>
 #include <string.h>
+#include <sys/mman.h>
+#include <unistd.h>
 
 enum { GUARD = 8, SHELVES = 4, SHELF_WORDS = 40, WORDS = 4 + SHELVES * SHELF_WORDS, ROOM = 200 };
 
@@ -215,12 +219,70 @@ static void damaged_files(void)
     host_free(&host);
 }
 
+/* Where memory ends: a call that reads or writes behind it ends the program. */
+static uint8_t *edge(void)
+{
+    size_t page = (size_t)sysconf(_SC_PAGESIZE);
+    uint8_t *block = mmap(NULL, 2 * page, PROT_READ | PROT_WRITE, MAP_PRIVATE | MAP_ANONYMOUS, -1, 0);
+    if (block == MAP_FAILED || mprotect(block + page, page, PROT_NONE) != 0) {
+        fputs("no memory\n", stderr);
+        exit(2);
+    }
+    return block + page;
+}
+
+static void short_sessions(void)
+{
+    const uint32_t header[] = {10, 3, SHELVES, SHELF_WORDS};
+    uint8_t *end = edge();
+    uint8_t output[ROOM];
+    for (size_t words = 0; words <= ZIKOREWI_HEADER_WORDS; words++) {
+        uint32_t *s = (uint32_t *)(void *)end - words;
+        uint64_t count = 99;
+        memcpy(s, header, words * sizeof *s);
+        check(take_open(s, words, 10, 3, SHELVES, SHELF_WORDS) == ZIKOREWI_HEADER, "short open");
+        check(take_lay(s, words, 0, 2, ONE_NOTE, 4) == ZIKOREWI_HEADER, "short lay");
+        check(take_split(s, words, 0, 1, 1, 2) == ZIKOREWI_HEADER, "short split");
+        check(take_join(s, words, 0, 1, 2) == ZIKOREWI_HEADER, "short join");
+        check(take_load(s, words, 0, WHOLE_FILE, sizeof WHOLE_FILE) == ZIKOREWI_HEADER, "short load");
+        check(take_write(s, words, 0, output, ROOM, &count) == ZIKOREWI_HEADER, "short write");
+        check(count == 0, "a short session counts 0");
+    }
+}
+
+static void buffers_at_the_edge(void)
+{
+    uint32_t *s = (uint32_t *)(void *)edge() - WORDS;
+    uint8_t *end = edge();
+    uint64_t count;
+    check(take_open(s, WORDS, 10, 3, SHELVES, SHELF_WORDS) == ZIKOREWI_DONE, "open");
+    for (size_t words = 0; words <= 4; words++) {
+        uint32_t number = words % 4 == 0 ? ZIKOREWI_DONE : ZIKOREWI_LIST;
+        uint32_t *list = (uint32_t *)(void *)end - words;
+        memcpy(list, ONE_NOTE, words * sizeof *list);
+        check(take_lay(s, WORDS, 3, 2, list, words) == number, "lay at the edge");
+    }
+    check(take_split(s, WORDS, 3, 1, 0, 1) == ZIKOREWI_DONE, "split at the edge");
+    check(take_join(s, WORDS, 0, 1, 3) == ZIKOREWI_DONE, "join at the edge");
+    for (size_t room = 0; room <= sizeof WHOLE_FILE; room++) {
+        uint32_t number = room < sizeof WHOLE_FILE ? ZIKOREWI_OUTPUT_ROOM : ZIKOREWI_DONE;
+        check(take_write(s, WORDS, 3, end - room, room, &count) == number, "write at the edge");
+    }
+    for (size_t bytes = 0; bytes <= sizeof WHOLE_FILE; bytes++) {
+        memcpy(end - bytes, WHOLE_FILE, bytes);
+        uint32_t number = take_load(s, WORDS, 3, end - bytes, bytes);
+        check((number == ZIKOREWI_DONE) == (bytes == sizeof WHOLE_FILE), "load at the edge");
+    }
+}
+
 int main(void)
 {
     the_example();
     unsound_shelf();
     refusals();
     damaged_files();
+    short_sessions();
+    buffers_at_the_edge();
     printf("%u passed, %u failed\n", passed, failed);
     return failed != 0;
 }

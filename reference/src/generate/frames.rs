@@ -175,7 +175,7 @@ fn long_file(random: &mut Random) -> Vec<Call> {
 fn malformed(random: &mut Random) -> Vec<u8> {
     let mut line = print(&Call::Split { take: 0, beat: 1, left: 1, right: 2 });
     let at = random.below(line.len() as u32) as usize;
-    match random.below(9) {
+    match random.below(10) {
         0 => line.clear(),
         1 => line[at] = random.pick(b"abcdefgGxX /:@`\r\t\0\x7F\x80\xFF"),
         2 => line.truncate(at | 1),
@@ -184,6 +184,7 @@ fn malformed(random: &mut Random) -> Vec<u8> {
         5 => put_hexadecimal(&mut line, &[0, 0, 0, 1]),
         6 => line.resize(MOST_DIGITS + random.between(1, 300) as usize, b'0'),
         7 => line = b"0200000000".to_vec(),
+        8 => line.push(b'0'),
         _ => line = b"06000000".to_vec(),
     }
     line
