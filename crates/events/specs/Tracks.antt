@@ -1,7 +1,7 @@
 -- The track of a take's notes as its code writes it, event by event; events are numbers. Assumes nothing.
 use mathlib.Core.Path.{_≡_}
 use mathlib.Core.List.{List, [], _∷_, map}
-use Prim.Native.Nat.{ℕ, _*_, _≤_, _<_}
+use Prim.Native.Nat.{ℕ, _+_, _*_, _/_, _≤_, _<_, min}
 use lib.ListN.{length}
 use Rattle.order.specs.Events.{events}
 use Rattle.order.specs.Queues.{Queues, merged}
@@ -11,6 +11,11 @@ use Rattle.track.specs.Keys.{tickOf, eventOf}
 -- The bytes of the events to come, the one before them at tick `last`, and of the end of track at `end`.
 abbrev pub trackLeft : ℕ → ℕ → List ℕ → List ℕ
 trackLeft end last ks = eventBytes end last (map eventOf ks)
+
+-- No track of so many notes that ends at tick `end` is longer: each event, and the end of track, takes four bytes, and one more for each 128
+-- ticks at most, three at most.
+abbrev pub trackMost : ℕ → ℕ → ℕ
+trackMost count end = 4 + 8 * count + min (3 + 6 * count) (end / 128)
 
 -- Events one after the other, from tick `last` to `end`.
 pub data Timed (end : ℕ) : ℕ → List ℕ → Type 0 where

@@ -5,7 +5,7 @@ use lib.ListN.{length, take}
 use Rattle.midi.specs.Numbers.{quantityBytes}
 use Rattle.midi.specs.Writing.{messageBytes}
 use Rattle.track.specs.Keys.{tickOf, eventOf}
-use Rattle.events.specs.Tracks.{trackLeft, Timed}
+use Rattle.events.specs.Tracks.{trackLeft, trackMost, Timed}
 
 -- The bytes of events, each behind its time from the event before it; the first comes behind one at tick `last`.
 unfoldable pub windowBytes : ℕ → List ℕ → List ℕ
@@ -32,4 +32,4 @@ pub record TableAsks (a : List ℕ) (count end : ℕ) : Type 0 where
   pub timed : Timed end 0 (take (2 * count) a)
   pub few : count ≤ 1024
   pub short : end ≤ longest
-  pub bound : length (trackLeft end 0 (take (2 * count) a)) ≤ 14 * count + 7
+  pub bound : length (trackLeft end 0 (take (2 * count) a)) ≤ trackMost count end

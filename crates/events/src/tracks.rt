@@ -3,10 +3,23 @@ ghost use mathlib.Core.Path.{_≡_};
 ghost use Prim.Native.Nat.{_+_, _≤_};
 ghost use lib.ListN.{length};
 ghost use Rattle.words.specs.Splice.{splice};
-ghost use Rattle.events.specs.Tracks.{trackLeft, eventsLeft, TrackAsks};
+ghost use Rattle.events.specs.Tracks.{trackLeft, trackMost, eventsLeft, TrackAsks};
 use crate::windows;
 use order::taking;
 use track::putting;
+
+// No track of so many notes that ends at tick `end` is longer.
+pub fn track_most(count: usize, end: u32) -> usize
+    requires { ⌜ count ≤ 1048576 ⌝ }
+    ensures { λ r. ⌜ r ≡ trackMost count end ⌝ }
+{
+    let further = 3 + 6 * count;
+    let long = (end / 128) as usize;
+    if long < further {
+        return 4 + 8 * count + long;
+    }
+    4 + 8 * count + further
+}
 
 // How many bytes the events of n lanes take, with the end of track at tick `end`.
 pub fn length_left(

@@ -8,7 +8,7 @@ use native.Mathlib.Nat.{mul-le-mul-right}
 use native.Mathlib.Omega.{arith}
 use lib.Dec.{leb, ltb}
 use lib.ListN.{length, length-append}
-use borrow.Author.Tests.{ltb-true}
+use borrow.Author.Tests.{ltb-true, ltb-false}
 use Rattle.model.specs.Lists.{gather}
 use Rattle.model.specs.Soundness.{notesOk}
 use Rattle.model.specs.declared.Note.{Note}
@@ -71,6 +71,27 @@ events-most end last (e ∷ es) = go (events-most end (e .tick) es)
         → length (quantityBytes (e .tick - last)) + 3 + eventsLength end (e .tick) es ≤ 7 * suc (length es) + 7
     go ih = omega (arith, quantity-fewest (e .tick - last) .four)
 
+-- a time takes a further group for 128 ticks at least
+groups-near : (n : ℕ) → length (quantityBytes n) ≤ 1 + n / 128
+unfolding quantityBytes
+groups-near n =
+    by-test near (ltb n 128) (λ a. omega arith)
+    (λ a. by-test near (ltb n 16384) (λ c. let d = ltb-false n 128 a in omega arith)
+    (λ c. by-test near (ltb n 2097152) (λ e. let d = ltb-false n 16384 c in omega arith)
+    (λ e. let d = ltb-false n 2097152 e in omega arith)))
+  where
+    near : List ℕ → Type 0
+    near bs = length bs ≤ 1 + n / 128
+
+events-near : (end last : ℕ) (es : List NoteEvent) → Steps end last es → eventsLength end last es ≤ 4 * length es + 4 + (end - last) / 128
+unfolding eventsLength
+events-near end last [] s = omega (arith, groups-near (end - last))
+events-near end last (e ∷ es) s = go (events-near end (e .tick) es (s .3))
+  where
+    go : eventsLength end (e .tick) es ≤ 4 * length es + 4 + (end - e .tick) / 128
+        → length (quantityBytes (e .tick - last)) + 3 + eventsLength end (e .tick) es ≤ 4 * suc (length es) + 4 + (end - last) / 128
+    go ih = omega (arith, groups-near (e .tick - last), s .1, s .2)
+
 insert-length : (e : NoteEvent) (xs : List NoteEvent) → length (insert e xs) ≡ suc (length xs)
 unfolding insert
 insert-length e [] = refl
@@ -101,6 +122,13 @@ pub track-most : (δ beats : ℕ) (notes : List Note) → length (trackBytes δ 
 track-most δ beats notes =
     let es = inOrder (gather eventsOf notes) in
     omega (arith, track-length δ beats notes, events-most (beats * δ) 0 es, events-count notes)
+
+-- Four bytes for each event and the end of track, and one more for each 128 ticks at most.
+pub track-near : (δ beats : ℕ) (notes : List Note) → notesOk δ beats notes ≡ true
+    → length (trackBytes δ beats notes) ≤ 8 * length notes + 4 + beats * δ / 128
+track-near δ beats notes ok =
+    let es = inOrder (gather eventsOf notes) in
+    omega (arith, track-length δ beats notes, events-near (beats * δ) 0 es (steps (beats * δ) notes (ok-fits δ beats notes ok)), events-count notes)
 
 -- ---- bytes
 

@@ -15,8 +15,8 @@ use Rattle.laws.specs.Reading.{length-read}
 use Rattle.midi.specs.Numbers.{word16Bytes, word32Bytes}
 use Rattle.midi.specs.Reading.{MThd, MTrk}
 use Rattle.midi.specs.Writing.{headerBytes, trackBytes, fileBytes}
-use Rattle.midi.proofs.Lengths.{track-most}
-use Rattle.events.specs.Tracks.{trackLeft}
+use Rattle.midi.proofs.Lengths.{track-most, track-near}
+use Rattle.events.specs.Tracks.{trackLeft, trackMost}
 use Rattle.writer.specs.Files.{FileAsks, fileOf, countOf, outputOf}
 use Rattle.writer.proofs.Shelves.{track-is}
 
@@ -56,12 +56,18 @@ module _ {s : List ℕ} {count δ beats : ℕ} (a : FileAsks s count δ beats) w
   pub track-short : length track ≤ 14 * count + 7
   track-short = omega (arith, track-most δ beats (readNotes count s), length-read count s)
 
+  track-bound : length track ≤ trackMost count (beats * δ)
+  track-bound = omega (arith, track-short, track-near δ beats (readNotes count s) (a .ok), length-read count s)
+
   module _ {ks : List ℕ} (w : ks ≡ sort (events s 0 count)) where
     pub left-is : trackLeft (beats * δ) 0 ks ≡ track
     left-is = ap (trackLeft (beats * δ) 0) w ∙ track-is a
 
     pub left-short : length (trackLeft (beats * δ) 0 ks) ≤ 14 * count + 7
     left-short = omega (arith, track-short, ap length left-is)
+
+    pub left-bound : length (trackLeft (beats * δ) 0 ks) ≤ trackMost count (beats * δ)
+    left-bound = omega (arith, track-bound, ap length left-is)
 
     -- the events counted tell whether the file fits
     pub counted-fits : (room : ℕ) {r : ℕ} → r ≡ length (trackLeft (beats * δ) 0 ks) → leb (22 + r) room ≡ leb (length file) room
@@ -86,9 +92,8 @@ module _ {s : List ℕ} {count δ beats : ℕ} (a : FileAsks s count δ beats) w
           rw (h, g, left-is, i, header-length δ (length track)) in
           rw f (j, k ∙ sym (splice-append-last out 0 (headerBytes δ (length track)) track))
 
-  -- no note takes more than 14 bytes
-  pub bound-fits : (room : ℕ) → 29 + 14 * count ≤ room → true ≡ leb (length file) room
-  bound-fits room h = sym (le-leb (length file) room (omega (arith, file-length, track-short)))
+  pub bound-fits : (room : ℕ) → 22 + trackMost count (beats * δ) ≤ room → true ≡ leb (length file) room
+  bound-fits room h = sym (le-leb (length file) room (omega (arith, file-length, track-bound)))
 
   pub file-none : (out : List ℕ) → leb (length file) (length out) ≡ false → (0 ≡ countOf file out) × (out ≡ outputOf file out)
   file-none out f = rw f (refl, refl)

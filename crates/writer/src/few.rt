@@ -8,15 +8,16 @@ ghost use Rattle.events.specs.Tracks.{trackLeft};
 ghost use Rattle.events.specs.Windows.{TableAsks};
 ghost use Rattle.writer.specs.Files.{FileAsks, fileOf, countOf, outputOf};
 use crate::files;
+use events::tracks;
 use events::windows;
 use track::putting;
 
-// Does the file of these events fit so many bytes? No note takes more than 14, so that they are counted only where that does not show it.
+// Does the file of these events fit so many bytes? They are counted only where the bound of their track does not show it.
 fn fits(a: &[u64], count: usize, end: u32, room: usize) -> bool
     requires { ⌜ TableAsks (now a) count end ⌝ }
     ensures { λ r. ⌜ r ≡ leb (22 + length (trackLeft end 0 (take (2 * count) (now (a .entry))))) room ⌝ }
 {
-    if 29 + 14 * count <= room {
+    if 22 + tracks::track_most(count, end) <= room {
         return true;
     }
     let reached = windows::window_length(a, 2 * count, 22, 0);

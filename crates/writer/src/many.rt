@@ -18,7 +18,7 @@ fn lanes_up_to(s: &[u32], count: usize) -> usize
     s[4 * (count - 1)] as usize + 1
 }
 
-// Does the file fit so many bytes? No note takes more than 14, so that its events are counted only where that does not show it.
+// Does the file fit so many bytes? Its events are counted only where the bound of its track does not show it.
 fn fits(
     s: &[u32],
     count: usize,
@@ -36,11 +36,12 @@ fn fits(
     requires { ⌜ FileAsks (now s) count delta beats × LanesBelow (now s) count n × Room (now pos) (now ends) (now to) (now a) (now b) (now places) ⌝ }
     ensures { λ r. ⌜ r ≡ leb (length (fileOf (now (s .entry)) count delta beats)) room ⌝ }
 {
-    if 29 + 14 * count <= room {
+    let end = beats * delta;
+    if 22 + tracks::track_most(count, end) <= room {
         return true;
     }
     order::runs(s, count, n, pos, ends);
-    let length = tracks::length_left(s, count, n, pos, ends, to, a, b, places, beats * delta);
+    let length = tracks::length_left(s, count, n, pos, ends, to, a, b, places, end);
     22 + length <= room
 }
 

@@ -6,26 +6,26 @@ use borrow.Author.Needs.{needs}
 use Rattle.writer.proofs.many.fits.Statement.{statement}
 use Rattle.writer.proofs.many.fits.Tie as tie
 
-mul-if1 : tie.Need-mul-if1
-mul-if1 c = search needs
+mul-end : tie.Need-mul-end
+mul-end c = omega (arith, end-short (c .before .before .before .before .before .before .before .pre .0))
+
+track-most-requires : tie.Need-track-most-requires
+track-most-requires c κs = search needs
 
 add-if1 : tie.Need-add-if1
 add-if1 c = search needs
 
 returns : tie.Need-returns
-returns c = bound-fits (c .before .before .before .before .before .before .before .before .pre .0) _ (c .if1 .taken)
+returns c = bound-fits (c .before .before .before .before .before .before .before .before .before .pre .0) _ (omega (arith, c .if1 .taken, c .before .track-most .ensures))
 
 runs-requires : tie.Need-runs-requires
-runs-requires c κs = (ordered (c .before .before .before .before .before .before .before .before .before .before .pre .0), c .before .before .before .before .before .before .before .before .before .before .pre .1 .each, c .before .before .before .before .before .before .before .before .before .before .pre .1 .some, omega (arith, c .before .before .before .before .before .before .before .before .before .before .pre .1 .most, c .before .before .before .before .before .before .before .before .before .before .pre .2 .starts), omega (arith, c .before .before .before .before .before .before .before .before .before .before .pre .1 .most, c .before .before .before .before .before .before .before .before .before .before .pre .2 .limits))
-
-mul-length-left : tie.Need-mul-length-left
-mul-length-left c = omega (arith, end-short (c .before .before .before .before .before .before .before .before .before .before .before .before .before .before .before .before .before .before .before .before .before .pre .0))
+runs-requires c κs = (ordered (c .before .before .before .before .before .before .before .before .before .before .before .pre .0), c .before .before .before .before .before .before .before .before .before .before .before .pre .1 .each, c .before .before .before .before .before .before .before .before .before .before .before .pre .1 .some, omega (arith, c .before .before .before .before .before .before .before .before .before .before .before .pre .1 .most, c .before .before .before .before .before .before .before .before .before .before .before .pre .2 .starts), omega (arith, c .before .before .before .before .before .before .before .before .before .before .before .pre .1 .most, c .before .before .before .before .before .before .before .before .before .before .before .pre .2 .limits))
 
 length-left-requires : tie.Need-length-left-requires
-length-left-requires c κs = (track-asks (c .before .before .before .before .before .before .before .before .before .before .before .before .before .before .before .before .before .before .before .before .before .pre .0) (c .before .before .before .before .before .before .before .before .before .before .runs .ensures) (c .before .before .before .before .before .before .before .before .before .before .before .before .before .before .before .before .before .before .before .before .before .pre .1) (record { starts = omega (arith, c .before .before .before .before .before .before .before .before .before .before .before .before .before .before .before .before .before .before .before .before .before .pre .2 .starts); limits = omega (arith, c .before .before .before .before .before .before .before .before .before .before .before .before .before .before .before .before .before .before .before .before .before .pre .2 .limits); next = omega (arith, c .before .before .before .before .before .before .before .before .before .before .before .before .before .before .before .before .before .before .before .before .before .pre .2 .next); here = omega (arith, c .before .before .before .before .before .before .before .before .before .before .before .before .before .before .before .before .before .before .before .before .before .pre .2 .here); there = omega (arith, c .before .before .before .before .before .before .before .before .before .before .before .before .before .before .before .before .before .before .before .before .before .pre .2 .there); table = omega (arith, c .before .before .before .before .before .before .before .before .before .before .before .before .before .before .before .before .before .before .before .before .before .pre .2 .table) }), omega (arith, left-short (c .before .before .before .before .before .before .before .before .before .before .before .before .before .before .before .before .before .before .before .before .before .pre .0) (c .before .before .before .before .before .before .before .before .before .before .runs .ensures .all), c .before .before .before .before .before .before .before .before .before .before .before .before .before .before .before .before .before .before .before .before .before .pre .0 .few))
+length-left-requires c κs = (track-asks (c .before .before .before .before .before .before .before .before .before .before .before .before .before .before .before .before .before .before .before .before .before .before .pre .0) (c .before .before .before .before .before .before .before .before .before .before .runs .ensures) (c .before .before .before .before .before .before .before .before .before .before .before .before .before .before .before .before .before .before .before .before .before .before .pre .1) (record { starts = omega (arith, c .before .before .before .before .before .before .before .before .before .before .before .before .before .before .before .before .before .before .before .before .before .before .pre .2 .starts); limits = omega (arith, c .before .before .before .before .before .before .before .before .before .before .before .before .before .before .before .before .before .before .before .before .before .before .pre .2 .limits); next = omega (arith, c .before .before .before .before .before .before .before .before .before .before .before .before .before .before .before .before .before .before .before .before .before .before .pre .2 .next); here = omega (arith, c .before .before .before .before .before .before .before .before .before .before .before .before .before .before .before .before .before .before .before .before .before .before .pre .2 .here); there = omega (arith, c .before .before .before .before .before .before .before .before .before .before .before .before .before .before .before .before .before .before .before .before .before .before .pre .2 .there); table = omega (arith, c .before .before .before .before .before .before .before .before .before .before .before .before .before .before .before .before .before .before .before .before .before .before .pre .2 .table) }), omega (arith, left-short (c .before .before .before .before .before .before .before .before .before .before .before .before .before .before .before .before .before .before .before .before .before .before .pre .0) (c .before .before .before .before .before .before .before .before .before .before .runs .ensures .all), c .before .before .before .before .before .before .before .before .before .before .before .before .before .before .before .before .before .before .before .before .before .before .pre .0 .few))
 
 add-result : tie.Need-add-result
-add-result c = omega (arith, left-short (c .before .before .before .before .before .before .before .before .before .before .before .before .before .before .before .before .before .before .before .before .before .before .before .before .before .before .before .before .before .before .before .before .pre .0) (c .before .before .before .before .before .before .before .before .before .before .before .before .before .before .before .before .before .before .before .before .before .runs .ensures .all), c .before .before .before .before .before .before .before .before .before .before .length-left .ensures, c .before .before .before .before .before .before .before .before .before .before .before .before .before .before .before .before .before .before .before .before .before .before .before .before .before .before .before .before .before .before .before .before .pre .0 .few)
+add-result c = omega (arith, left-short (c .before .before .before .before .before .before .before .before .before .before .before .before .before .before .before .before .before .before .before .before .before .before .before .before .before .before .before .before .before .before .before .before .before .pre .0) (c .before .before .before .before .before .before .before .before .before .before .before .before .before .before .before .before .before .before .before .before .before .runs .ensures .all), c .before .before .before .before .before .before .before .before .before .before .length-left .ensures, c .before .before .before .before .before .before .before .before .before .before .before .before .before .before .before .before .before .before .before .before .before .before .before .before .before .before .before .before .before .before .before .before .before .pre .0 .few)
 
 same-length : tie.Need-same-length
 same-length c = search needs
@@ -46,17 +46,17 @@ same-length-6 : tie.Need-same-length-6
 same-length-6 c = search needs
 
 returns-2 : tie.Need-returns-2
-returns-2 c = counted-fits (c .before .before .before .before .before .before .before .before .before .before .before .before .before .before .before .before .before .before .before .before .before .before .before .before .before .before .before .before .before .before .before .before .pre .0) (c .before .before .before .before .before .before .before .before .before .before .before .before .before .before .before .before .before .before .before .before .before .runs .ensures .all) _ (c .before .before .before .before .before .before .before .before .before .before .length-left .ensures)
+returns-2 c = counted-fits (c .before .before .before .before .before .before .before .before .before .before .before .before .before .before .before .before .before .before .before .before .before .before .before .before .before .before .before .before .before .before .before .before .before .pre .0) (c .before .before .before .before .before .before .before .before .before .before .before .before .before .before .before .before .before .before .before .before .before .runs .ensures .all) _ (c .before .before .before .before .before .before .before .before .before .before .length-left .ensures)
 
 pub fits-spec : {M : Type 1} → statement M
 fits-spec =
     tie.close
     (tie.spec
-    mul-if1
+    mul-end
+    track-most-requires
     add-if1
     returns
     runs-requires
-    mul-length-left
     length-left-requires
     add-result
     same-length
