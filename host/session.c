@@ -158,19 +158,12 @@ uint32_t session_join(struct Session *session, uint32_t first, uint32_t second, 
 uint32_t session_write(const struct Session *session, uint32_t shelf, uint8_t **file,
                        size_t *bytes)
 {
-    size_t room = 64 + 8 * (size_t)session_shelf(session, shelf)[1];
+    size_t room = zikorewi_file_bytes(session_shelf(session, shelf)[1]);
     uint64_t count = 0;
-    uint32_t number = ZIKOREWI_OUTPUT_ROOM;
-    *file = NULL;
-    while (number == ZIKOREWI_OUTPUT_ROOM) {
-        uint8_t *larger = realloc(*file, room);
-        if (larger == NULL) {
-            number = HOST_NO_MEMORY;
-            break;
-        }
-        *file = larger;
+    uint32_t number = HOST_NO_MEMORY;
+    *file = malloc(room);
+    if (*file != NULL) {
         number = take_write(session->words, length(session), shelf, *file, room, &count);
-        room *= 2;
     }
     *bytes = (size_t)count;
     return number;

@@ -64,6 +64,14 @@ static inline size_t zikorewi_session_words(uint32_t shelves, uint32_t shelf_wor
     return (size_t)ZIKOREWI_HEADER_WORDS + (size_t)shelves * shelf_words;
 }
 
+/* The bytes of an output that every file of so many notes fits: a time of at
+ * most four bytes and three more for each of a note's two events and for the
+ * end of track, behind 22 bytes. */
+static inline size_t zikorewi_file_bytes(uint32_t notes)
+{
+    return 29 + 14 * (size_t)notes;
+}
+
 /* Opens a session: writes its header words and empties every shelf. What the
  * words held before does not matter.
  * Numbers: 1. */
@@ -94,7 +102,8 @@ uint32_t take_load(uint32_t *session, size_t words, uint32_t shelf, const uint8_
 
 /* Writes a shelf's take as a format 0 file to the output, and its length to
  * count; what stands in the output behind the file stays. After a refusal the
- * whole output is as it was and count is 0.
+ * whole output is as it was and count is 0. An output of zikorewi_file_bytes()
+ * is never refused for its room.
  * Numbers: 1, 2, 4, 15. */
 uint32_t take_write(const uint32_t *session, size_t words, uint32_t shelf, uint8_t *output,
                     size_t room, uint64_t *count);

@@ -275,6 +275,30 @@ static void buffers_at_the_edge(void)
     }
 }
 
+/* Notes so far apart that each time takes four bytes: no file of as many notes is longer. */
+static void longest_file(void)
+{
+    enum { NOTES = 30, APART = 1 << 21, LONG_SHELF = 60000, LONG_WORDS = 4 + LONG_SHELF, LEAST = 22 + 8 * NOTES };
+    uint32_t notes[4 * NOTES];
+    uint32_t *s = memory(LONG_WORDS * sizeof *s);
+    size_t room = zikorewi_file_bytes(NOTES);
+    uint8_t *end = edge();
+    uint64_t count;
+    for (uint32_t i = 0; i < NOTES; i++) {
+        uint32_t start = (2 * i + 1) * APART;
+        memcpy(notes + 4 * i, (uint32_t[]){60, start, start + APART, 64}, 4 * sizeof *notes);
+    }
+    check(take_open(s, LONG_WORDS, 32767, 1, 1, LONG_SHELF) == ZIKOREWI_DONE, "long open");
+    check(take_lay(s, LONG_WORDS, 0, 4096, notes, 4 * NOTES) == ZIKOREWI_DONE, "long lay");
+    for (size_t less = 1; less <= room - LEAST; less++) {
+        uint32_t number = take_write(s, LONG_WORDS, 0, end - room + less, room - less, &count);
+        check(number == ZIKOREWI_OUTPUT_ROOM && count == 0, "an output shorter than the longest file");
+    }
+    check(take_write(s, LONG_WORDS, 0, end - room, room, &count) == ZIKOREWI_DONE, "long write");
+    check(count == room, "the longest file is as long as the header says");
+    free(s);
+}
+
 int main(void)
 {
     the_example();
@@ -283,6 +307,7 @@ int main(void)
     damaged_files();
     short_sessions();
     buffers_at_the_edge();
+    longest_file();
     printf("%u passed, %u failed\n", passed, failed);
     return failed != 0;
 }
