@@ -27,7 +27,7 @@ pub fn put_header(out: &mut [u8], delta: u32, size: u32)
 }
 
 // The file of a shelf's notes, if it fits the output. Returns its length, or 0 if it does not fit. The events are taken window by window, or where
-// the lanes are very many, bucket by bucket in the output itself. The tables are lent to the way that is taken.
+// the lanes are many, bucket by bucket in the output itself. The tables are lent to the way that is taken.
 fn put_lent(
     s: &[u32],
     count: usize,

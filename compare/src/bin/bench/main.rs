@@ -53,7 +53,7 @@ fn main() -> ExitCode {
     for wide in [false, true] {
         for lanes in [88, 2_048] {
             // 1,000 notes first: the growth is over these.
-            for notes in [1_000, 100, 10_000, 100_000] {
+            for notes in [1_000, 100, 3_000, 10_000, 30_000, 100_000] {
                 measure(Size { notes, lanes, wide }, &mut rows);
             }
         }
