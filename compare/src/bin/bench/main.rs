@@ -41,6 +41,16 @@ fn measure(size: Size, rows: &mut Vec<Row>) {
     assert!(proved.output == second.output, "both write the same bytes");
 }
 
+/// How many notes the recordings have: 1,000 first, since the growth is over these. In the largest shelves memory is
+/// most of the time, so that fewer sizes do.
+fn sizes(wide: bool) -> &'static [u32] {
+    if wide {
+        &[1_000, 100, 10_000, 100_000]
+    } else {
+        &[1_000, 100, 3_000, 10_000, 30_000, 100_000]
+    }
+}
+
 fn write(folder: &Path, rows: &[Row]) -> std::io::Result<()> {
     std::fs::create_dir_all(folder.join("pictures"))?;
     std::fs::write(folder.join("BENCHMARK.md"), report::document(rows, &machine()))?;
@@ -52,8 +62,7 @@ fn main() -> ExitCode {
     let mut rows = Vec::new();
     for wide in [false, true] {
         for lanes in [88, 2_048] {
-            // 1,000 notes first: the growth is over these.
-            for notes in [1_000, 100, 3_000, 10_000, 30_000, 100_000] {
+            for &notes in sizes(wide) {
                 measure(Size { notes, lanes, wide }, &mut rows);
             }
         }

@@ -14,10 +14,10 @@ pub struct Row {
 }
 
 /// Seconds that the rounds of one row take, about.
-const ROW_SECONDS: f64 = 1.0;
+const ROW_SECONDS: f64 = 2.0;
 
 /// At least so many pairs of rounds, and at most.
-const PAIRS: [f64; 2] = [3.0, 200.0];
+const PAIRS: [f64; 2] = [3.0, 400.0];
 
 /// Seconds that one measured time has at least, about.
 const LEAST_SECONDS: f64 = 50e-6;
