@@ -1,4 +1,4 @@
--- `writer::emitting::bucket_start` meets its contract. Assumes nothing.
+-- `events::emitting::bucket_start` meets its contract. Assumes nothing.
 use Prim.Native.Nat.{_-_}
 use native.Mathlib.Omega.{arith}
 use Rattle.events.proofs.BucketLoops.{start-first, start-later}

@@ -1,4 +1,4 @@
--- `writer::emitting::put_bucket` meets its contract. Assumes nothing.
+-- `events::emitting::put_bucket` meets its contract. Assumes nothing.
 use native.Mathlib.Omega.{arith}
 use Rattle.events.proofs.BucketLoops.{base-small, read-window, read-room, read-bytes}
 use borrow.Author.Needs.{needs}

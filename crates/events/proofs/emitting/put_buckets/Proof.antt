@@ -1,4 +1,4 @@
--- `writer::emitting::put_buckets` meets its contract. Assumes nothing.
+-- `events::emitting::put_buckets` meets its contract. Assumes nothing.
 use mathlib.Core.Path.{_≡_, refl}
 use native.Mathlib.Omega.{arith}
 use lib.ListN.{length, getD}

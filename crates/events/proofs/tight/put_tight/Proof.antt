@@ -1,4 +1,4 @@
--- `writer::tight::put_tight` meets its contract: the bytes of the buckets passed are written. Assumes nothing.
+-- `events::tight::put_tight` meets its contract: the bytes of the buckets passed are written. Assumes nothing.
 use mathlib.Core.Path.{_≡_, refl}
 use Prim.Native.Nat.{_+_, _-_, _*_}
 use native.Mathlib.Omega.{arith}

@@ -1,4 +1,4 @@
--- `writer::tight::put_tight_bucket` meets its contract. Assumes nothing.
+-- `events::tight::put_tight_bucket` meets its contract. Assumes nothing.
 use native.Mathlib.Omega.{arith}
 use Rattle.events.proofs.Sorting.{window-asks, window-short}
 use Rattle.events.proofs.TightLoops.{tight-empty, tight-room, tight-not, tight-written}

@@ -1,4 +1,4 @@
--- `writer::tracks::put_left` meets its contract. Assumes nothing.
+-- `events::tracks::put_left` meets its contract. Assumes nothing.
 use mathlib.Core.Path.{_≡_, refl}
 use Prim.Native.Nat.{_-_}
 use native.Mathlib.Omega.{arith}

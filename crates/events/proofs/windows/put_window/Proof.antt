@@ -1,4 +1,4 @@
--- `writer::windows::put_window` meets its contract. Assumes nothing.
+-- `events::windows::put_window` meets its contract. Assumes nothing.
 use Prim.Native.Nat.{_-_}
 use native.Mathlib.Omega.{arith}
 use Rattle.events.proofs.WindowLoops.{Putting, putting-start, counting-on, counting-within, counting-room, counting-over, putting-more, putting-over}

@@ -1,4 +1,4 @@
--- `writer::windows::window_length` meets its contract. Assumes nothing.
+-- `events::windows::window_length` meets its contract. Assumes nothing.
 use Prim.Native.Nat.{_-_}
 use native.Mathlib.Omega.{arith}
 use Rattle.events.proofs.WindowLoops.{Counting, counting-start, counting-on, counting-within, counting-room, counting-more, counting-over}
