@@ -48,8 +48,9 @@ and the best time of each counts. It prints the table and writes this page and i
 
 A recording has so many notes in so many lanes, 480 ticks to the beat, notes of a tick to a beat with rests between
 them. W is tight, just what the recording takes, or the most that a shelf may have, 1,048,576 words. Split cuts the
-recording in the middle, join puts the halves together again. The 300 cuts each take random beats out of the
-recording: two splits and a join, given here for one of the 900 calls; of each cut the best time counts.
+recording in the middle, join puts the halves together again. Load reads the recording's file as write gives it; write
+is lent an output that every file of so many notes fits. The 300 cuts each take random beats out of the recording: two
+splits and a join, given here for one of the 900 calls; of each cut the best time counts.
 
 - ratio: the proved call's time over the second implementation's
 - growth: the proved call's time for each note over that at 1,000 notes
