@@ -14,11 +14,13 @@ fn bytes(random: &mut Random, length: usize) -> Vec<u8> {
 /// A write to outputs of every length around the file's, and around the length
 /// from which no event is counted.
 fn around(random: &mut Random, pair: &Pair, shelf: u32, counts: &mut Counts) -> Result<(), String> {
-    let notes = pair.shelf(shelf)[1] as usize;
-    let most = 29 + 14 * notes;
-    let output = bytes(random, most + 40);
+    let [beats, notes] = [0, 1].map(|place| pair.shelf(shelf)[place] as usize);
+    let ticks = beats * pair.second[0] as usize;
+    let uncounted = 26 + 8 * notes + (ticks / 128).min(3 + 6 * notes);
+    let output = bytes(random, 29 + 14 * notes + 40);
     let length = pair.write(shelf, &output, counts)? as usize;
-    let rooms = [0, 21, 22, length - 1, length, length + 1, most - 1, most, most + 1];
+    let rooms =
+        [0, 21, 22, length - 1, length, length + 1, uncounted - 1, uncounted, uncounted + 1];
     for room in rooms {
         let count = pair.write(shelf, &output[..room], counts)? as usize;
         let expected = if room < length { 0 } else { length };
