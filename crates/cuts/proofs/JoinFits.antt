@@ -7,7 +7,7 @@ use native.Mathlib.Omega.{arith}
 use borrow.Author.Tests.{le-leb, leb-true, leb-false}
 use lib.Dec.{leb}
 use lib.ListN.{length}
-use Rattle.model.specs.Limits.{maxWords}
+use Rattle.model.specs.Limits.{laneCount, maxWords}
 use Rattle.model.specs.Questions.{fits, takeAt}
 use Rattle.model.specs.Session.{shelfAt}
 use Rattle.model.specs.Takes.{Take, joinTakes, notesOf}
@@ -75,11 +75,11 @@ module _ {s : List ℕ} {h : Header} {i j k : ℕ} (a : JoinAsks s h i j k) wher
       fewer-few = y;
     }
 
-    -- with a note more for each cell of the take that has fewer
-    pub most-asks : {m : ℕ} → m ≡ min (first .cells) (second .cells) → CountsAsks h first second m 0
+    -- with a note more for each pair that there can be
+    pub most-asks : {m : ℕ} → m ≡ min laneCount (min (first .cells) (second .cells)) → CountsAsks h first second m 0
     most-asks e = counts-asks _ 0 (omega (arith, e, r .used-is, range a .small)) (omega arith)
 
-    pub fits-at-once : {m : ℕ} → m ≡ min (first .cells) (second .cells) → {b : Bool} → b ≡ leb (countedWords first second m) (h .words + 4 * 0) → b ≡ true → true ≡ fits h both
+    pub fits-at-once : {m : ℕ} → m ≡ min laneCount (min (first .cells) (second .cells)) → {b : Bool} → b ≡ leb (countedWords first second m) (h .words + 4 * 0) → b ≡ true → true ≡ fits h both
     unfolding fits countedWords
     fits-at-once {m} e f g =
         let yes : countedWords first second m ≤ h .words + 4 * 0 = leb-true _ _ (sym f ∙ g) in

@@ -3,6 +3,7 @@ ghost use mathlib.Core.Path.{_≡_};
 ghost use Prim.Native.Nat.{_+_, _*_, _≤_, min};
 ghost use lib.Dec.{leb};
 ghost use lib.ListN.{length};
+ghost use Rattle.model.specs.Limits.{laneCount};
 ghost use Rattle.model.specs.Questions.{fits, takeAt};
 ghost use Rattle.model.specs.Takes.{joinTakes};
 ghost use Rattle.laws.specs.JoinCount.{seams};
@@ -125,14 +126,21 @@ fn count_seams(s: &[u32], h: Header, beats: u32, first: Contents, second: Conten
 
 // ---- the question
 
-// The lesser of two numbers of cells.
-fn fewer_cells(first: Contents, second: Contents) -> usize
-    ensures { λ r. ⌜ r ≡ min (first .cells) (second .cells) ⌝ }
+// The lesser of two numbers.
+fn fewer(a: usize, b: usize) -> usize
+    ensures { λ r. ⌜ r ≡ min a b ⌝ }
 {
-    if first.cells <= second.cells {
-        return first.cells;
+    if a <= b {
+        return a;
     }
-    second.cells
+    b
+}
+
+// No more pairs of cells are bound over the line than there are lanes, or cells in the take that has fewer.
+fn most_pairs(first: Contents, second: Contents) -> usize
+    ensures { λ r. ⌜ r ≡ min laneCount (min (first .cells) (second .cells)) ⌝ }
+{
+    fewer(Header::LANES as usize, fewer(first.cells, second.cells))
 }
 
 // Do the three counts, two takes' notes and cells, and so many notes more, fit a shelf where so many notes are fewer?
@@ -145,8 +153,8 @@ fn counts_fit(h: Header, first: Contents, second: Contents, more: usize, fewer: 
     3 + 4 * notes + 6 * cells <= (h.words as usize) + 4 * fewer
 }
 
-// Question 8: does the join of the takes in two sound shelves fit a shelf? Yes at once where it fits with a note more for every cell of
-// the take that has fewer; else its notes are counted.
+// Question 8: does the join of the takes in two sound shelves fit a shelf? Yes at once where it fits with a note more for each pair that
+// there can be; else its notes are counted.
 pub fn join_fits(s: &[u32], h: Header, first: u32, second: u32) -> bool
     requires { ⌜ FitAsks (now s) h first second ⌝ }
     ensures { λ r. ⌜ r ≡ fits h (joinTakes (h .delta) (takeAt h (now (s .entry)) first) (takeAt h (now (s .entry)) second)) ⌝ }
@@ -154,7 +162,7 @@ pub fn join_fits(s: &[u32], h: Header, first: u32, second: u32) -> bool
     let at = header::shelf_at(h, first);
     let a = halves::contents_at(s, at);
     let b = halves::contents_at(s, header::shelf_at(h, second));
-    if counts_fit(h, a, b, fewer_cells(a, b), 0) {
+    if counts_fit(h, a, b, most_pairs(a, b), 0) {
         return true;
     }
     let seams = count_seams(s, h, s[at], a, b);

@@ -96,10 +96,6 @@ unfoldable pub cutLeft : Header → ℕ → List Cell → Note → List Note
 unfolding leftBy findCell
 cutLeft H k cells = leftBy H k (λ l. findCell l (k - 1) 1 cells)
 
-unfoldable pub cutRight : Header → ℕ → List Cell → Note → List Note
-unfolding rightBy findCell
-cutRight H k cells = rightBy H k (λ l. findCell l k 0 cells)
-
 -- ---- one pass
 
 -- The parts of notes in order of lanes: only a note across the line looks at cells, from beat b of its lane on, and those behind it look at no earlier cell.

@@ -22,7 +22,7 @@ use Rattle.laws.specs.Counting.{link-back}
 use Rattle.laws.specs.CutLines.{Cells, put, walk-keep}
 use Rattle.laws.specs.CutMerge.{Part, gather-merge}
 use Rattle.laws.specs.CutSides.{crossStay, left-cuts, left-in, left-out, right-cuts, stayBy}
-use Rattle.laws.specs.Cutting.{Found, by-all, by-before, by-behind, closing-found, closingCell, crossLeft, crossRight, cutBy, cutLeft, cutLeftFrom, cutRight, cutRightFrom, find-found, findCell, firstCell, from-gather, leftBy, noteBack, opening-found, rightBy}
+use Rattle.laws.specs.Cutting.{Found, by-all, by-before, by-behind, closing-found, closingCell, crossLeft, crossRight, cutBy, cutLeft, cutLeftFrom, cutRightFrom, find-found, findCell, firstCell, from-gather, leftBy, noteBack, opening-found, rightBy}
 use Rattle.laws.specs.Joining.{back-note}
 use Rattle.laws.specs.Lists.{gather-same, map-gather, map-keep}
 use Rattle.laws.specs.Moving.{solid-left, solid-right}
@@ -232,11 +232,6 @@ module _ (H : Header) (z : 0 < (H .delta)) (le : (H .epsilon) ≤ (H .delta)) (t
   unfolding cutLeft
   left-notes = left-by (λ l. findCell l (k - 1) 1 (t .cells)) (find-found (H .delta) (k - 1) 1 (t .cells) (s .cells-apart))
 
-  -- the notes of the right half: each note of the take, moved, dropped or cut
-  pub right-notes : notesOf H (splitRight (H .delta) k t) ≡ gather (cutRight H k (t .cells)) (notesOf H t)
-  unfolding cutRight
-  right-notes = right-by (λ l. findCell l k 0 (t .cells)) (find-found (H .delta) k 0 (t .cells) (s .cells-apart))
-
   -- the same by one pass
   pub left-pass : notesOf H (splitLeft (H .delta) k t) ≡ cutLeftFrom H k (notesOf H t) (t .cells)
   unfolding cutLeftFrom leftBy
@@ -249,12 +244,6 @@ module _ (H : Header) (z : 0 < (H .delta)) (le : (H .epsilon) ≤ (H .delta)) (t
   right-pass =
       right-by (λ l. firstCell (skip l k (t .cells))) (opening-found (H .delta) k (t .cells) (s .cells-apart))
       ∙ sym (from-gather (k * H .delta) (λ n. []) (λ n. noteBack (k * H .delta) n ∷ []) (crossRight H k) firstCell k (notesOf H t) (t .cells) note-lanes)
-
-  pub pass-left : cutLeftFrom H k (notesOf H t) (t .cells) ≡ gather (cutLeft H k (t .cells)) (notesOf H t)
-  pass-left = sym left-pass ∙ left-notes
-
-  pub pass-right : cutRightFrom H k (notesOf H t) (t .cells) ≡ gather (cutRight H k (t .cells)) (notesOf H t)
-  pass-right = sym right-pass ∙ right-notes
 
 -- ---- their cells
 

@@ -80,14 +80,6 @@ module _ (H : Header) (z : 0 < (H .delta)) (n : Note) where
   unfolding fills cellAt
   fills-no b h = lt-leb (H .delta) (n .end - b * (H .delta)) (omega arith)
 
-  open-end : (b : ℕ) → b * (H .delta) ≤ n .end → endOf (H .delta) (openC b) ≡ n .end
-  unfolding endOf cellAt
-  open-end b h = omega arith
-
-  close-start : (b : ℕ) → n .start < suc b * (H .delta) → startOf (H .delta) (closeC b) ≡ n .start
-  unfolding startOf cellAt
-  close-start b h = omega arith
-
   module _ (cs : List Cell) (f : Fresh cs) where
     heal : (k b : ℕ) (left : Bool) → n .start < suc b * (H .delta) → (b + k) * (H .delta) < n .end → n .end ≤ suc (b + k) * (H .delta)
         → (b * (H .delta) < n .start → suc b * (H .delta) ≤ n .end) → (n .start < b * (H .delta) → left ≡ true)

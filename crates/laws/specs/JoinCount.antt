@@ -7,6 +7,7 @@ use Prim.Native.Nat.{_*_, _+_, _<_, _≤_, min, suc, zero, ℕ}
 use native.Mathlib.Omega.{arith}
 use lib.ListN.{length, length-append}
 use Rattle.model.specs.Binding.{standsAlone}
+use Rattle.model.specs.Limits.{laneCount}
 use Rattle.model.specs.Lists.{consIf, countFrom, gather, keep}
 use Rattle.model.specs.Takes.{Take, cellTo, joinTakes, lanes, notesOf}
 use Rattle.model.specs.declared.Cell.{Cell}
@@ -14,7 +15,7 @@ use Rattle.model.specs.declared.Header.{Header}
 use Rattle.model.specs.declared.Note.{Note}
 use Rattle.laws.specs.JoinLanes.{join-lane-is, one-lane}
 use Rattle.laws.specs.Lists.{gather-none}
-use Rattle.laws.specs.JoinWalk.{From, cellRest, cellRun, each-none, each-step, only-cells}
+use Rattle.laws.specs.JoinWalk.{From, cellRest, cellRun, each-step, only-cells}
 use Rattle.laws.specs.Joined.{OneLane, lane-length}
 use Rattle.laws.specs.Moving.{solid-join}
 use Rattle.laws.specs.Seam.{boundAt, lone, one, seamOf}
@@ -39,11 +40,6 @@ module _ (H : Header) (k : ℕ) where
   unfolding seamOf
   seam-none = refl
 
-  -- without cells there are no pairs
-  pub seams-none : seams H k [] [] ≡ []
-  unfolding seams
-  seams-none = each-none (λ ms cs ns ds. seamOf H k cs ds) seam-none
-
   -- nor where the first take has none
   pub seams-over : (ds : List Cell) → seams H k [] ds ≡ []
   unfolding seams seamOf
@@ -56,13 +52,13 @@ module _ (H : Header) (k : ℕ) where
   seams-step l cs ds b f g = each-step (λ ms cs ns ds. seamOf H k cs ds) seam-none l [] cs [] ds b (only-cells l cs ds f g)
 
   -- a lane has at most one pair, and none without cells
-  seam-few : (cs ds : List Cell) → length (seamOf H k cs ds) ≤ min (length cs) (length ds)
+  seam-few : (cs ds : List Cell) → length (seamOf H k cs ds) ≤ min 1 (min (length cs) (length ds))
   unfolding seamOf
   seam-few [] ds = omega arith
   seam-few (c ∷ cs) [] = omega arith
   seam-few (c ∷ cs) (d ∷ ds) = go (boundAt H k (lastOr c cs) d)
     where
-      go : (b : Bool) → length {A = Cell × Cell} (consIf b (lastOr c cs, d) []) ≤ min (suc (length cs)) (suc (length ds))
+      go : (b : Bool) → length {A = Cell × Cell} (consIf b (lastOr c cs, d) []) ≤ min 1 (min (suc (length cs)) (suc (length ds)))
       go true = omega arith
       go false = omega arith
 
@@ -113,6 +109,13 @@ gather-fewer f g (suc n) i h =
     let b = gather-fewer f g n (suc i) h in
     simp length-append (omega arith)
 
+gather-few : {A : Type 0} (f : ℕ → List A) (n i : ℕ) → ((l : ℕ) → length (f l) ≤ 1) → length (gather f (countFrom n i)) ≤ n
+gather-few f zero i h = omega arith
+gather-few f (suc n) i h =
+    let a = h i in
+    let b = gather-few f n (suc i) h in
+    simp length-append (omega arith)
+
 -- ---- a join of two solid takes
 
 module _ (H : Header) (z : 0 < (H .delta)) (le : (H .epsilon) ≤ (H .delta)) (t u : Take) (s : Solid (H .delta) t) (r : Solid (H .delta) u) where
@@ -132,15 +135,11 @@ module _ (H : Header) (z : 0 < (H .delta)) (le : (H .epsilon) ≤ (H .delta)) (t
       let e = join-lane-is (H .delta) t u r l (omega arith) in
       rw e (lane-length H z le l (laneOf l t) (laneOf l u) (one-lane (H .delta) t s l) (one-lane (H .delta) u r l) (subst (OneLane (H .delta) l) e (one-lane (H .delta) v w l)))))
 
-  -- at most those of both, and one for each pair of which neither stands alone
-  pub join-most : length (notesOf H (joinTakes (H .delta) t u)) ≤ length (notesOf H t) + length (notesOf H u) + length (keep (neither H) (seams H (t .beats) (t .cells) (u .cells)))
-  join-most = let e = join-length in let f = few H (t .beats) pairs in omega arith
-
   lanes-length : (v : Take) → Solid (H .delta) v → length (gather (λ l. cellsAt l (v .cells)) lanes) ≡ length (v .cells)
   lanes-length v w = ap length (tidy-lanes (λ c. c .lane) (λ c. c .beat) cellTo (v .beats) (v .cells) (cells-tidy (H .delta) z v w))
 
-  -- no more pairs than cells in the take that has fewer
-  pub pairs-few : length (seams H (t .beats) (t .cells) (u .cells)) ≤ min (length (t .cells)) (length (u .cells))
+  -- no more pairs than lanes, or than cells in the take that has fewer
+  pub pairs-few : length (seams H (t .beats) (t .cells) (u .cells)) ≤ min laneCount (min (length (t .cells)) (length (u .cells)))
   unfolding seams
   pairs-few =
       let at : ℕ → List (Cell × Cell) = λ l. seamOf H (t .beats) (cellsAt l (t .cells)) (cellsAt l (u .cells)) in
@@ -148,8 +147,10 @@ module _ (H : Header) (z : 0 < (H .delta)) (le : (H .epsilon) ≤ (H .delta)) (t
       let b = gather-fewer at (λ l. cellsAt l (u .cells)) 2048 0 (λ l. let f = seam-few H (t .beats) (cellsAt l (t .cells)) (cellsAt l (u .cells)) in omega arith) in
       let c = lanes-length t s in
       let d = lanes-length u r in
+      let e = gather-few at 2048 0 (λ l. let f = seam-few H (t .beats) (cellsAt l (t .cells)) (cellsAt l (u .cells)) in omega arith) in
       omega arith
 
-  -- at most those of both, and one for each cell of the take that has fewer
-  pub join-room : length (notesOf H (joinTakes (H .delta) t u)) ≤ length (notesOf H t) + length (notesOf H u) + min (length (t .cells)) (length (u .cells))
+  -- at most those of both, and one for each lane or for each cell of the take that has fewer
+  pub join-room : length (notesOf H (joinTakes (H .delta) t u))
+      ≤ length (notesOf H t) + length (notesOf H u) + min laneCount (min (length (t .cells)) (length (u .cells)))
   join-room = let e = join-length in let f = pairs-few in omega arith

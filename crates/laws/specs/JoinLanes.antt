@@ -1,26 +1,24 @@
 -- The notes of a join of two solid takes, lane by lane. By one walk over the notes and cells of both: JoinWalk.
 -- Assumes nothing.
-use mathlib.Core.Bool.{true}
 use mathlib.Core.List.{List, [], _++_, _∷_, map}
 use mathlib.Core.Path.{_∙_, _≡_, ap, ap₂, refl, subst, sym}
 use Prim.Native.Nat.{_*_, _+_, _<_, _≤_, ℕ}
 use native.Mathlib.Omega.{arith}
 use lib.Dec.{eqb}
-use Rattle.model.specs.Binding.{standsAlone}
 use Rattle.model.specs.Lists.{gather}
 use Rattle.model.specs.Pieces.{firstBeat}
 use Rattle.model.specs.Takes.{Take, joinTakes, lanes, laterBy, noteTo, notesOf}
 use Rattle.model.specs.declared.Cell.{Cell}
 use Rattle.model.specs.declared.Header.{Header}
 use Rattle.model.specs.declared.Note.{Note}
-use Rattle.laws.specs.Joined.{Crossed, OneLane, behind, lane-crossed, lane-join}
+use Rattle.laws.specs.Joined.{OneLane, behind, lane-join}
 use Rattle.laws.specs.Joining.{later-note}
 use Rattle.laws.specs.Lanes.{lane-byLane}
 use Rattle.laws.specs.Lists.{gather-count, keep-append, keep-map}
 use Rattle.laws.specs.Moving.{solid-join}
 use Rattle.laws.specs.Notes.{Fair}
-use Rattle.laws.specs.Relations.{All, all-imp}
-use Rattle.laws.specs.Seam.{EndsAt, StartsAt0, joinLane, seamOf}
+use Rattle.laws.specs.Relations.{All}
+use Rattle.laws.specs.Seam.{joinLane}
 use Rattle.laws.specs.SeamLanes.{cells-on, cellsAt, lane-notes, laneOf, notes-lanes, notes-on, notesAt, solid-lane}
 use Rattle.laws.specs.SeamWalk.{cellLater, noteLater}
 use Rattle.laws.specs.Solid.{Solid}
@@ -82,15 +80,3 @@ module _ (H : Header) (z : 0 < (H .delta)) (le : (H .epsilon) ≤ (H .delta)) (t
       notes-lanes H z le v w
       ∙ gather-count (λ l. notesOf H (laneOf l v)) (λ l. joinLane H (t .beats) (notesAt l (notesOf H t)) (cellsAt l (t .cells)) (notesAt l (notesOf H u)) (cellsAt l (u .cells))) 2048 0
       (λ l a b. sym (lane-notes H z le v w l (omega arith)) ∙ join-lane l (omega arith))
-
-  -- a lane's cells that are bound over the line, where they stand alone: the first take's last note of the lane ends at the line, and the second's first starts at tick 0
-  pub join-seam : (l : ℕ) → l < 2048
-      → All (λ p. (standsAlone H (p .0) ≡ true → EndsAt (t .beats * H .delta) (notesAt l (notesOf H t))) × (standsAlone H (p .1) ≡ true → StartsAt0 (notesAt l (notesOf H u)))) (seamOf H (t .beats) (cellsAt l (t .cells)) (cellsAt l (u .cells)))
-  join-seam l b =
-      let v = joinTakes (H .delta) t u in
-      let w : Solid (H .delta) v = solid-join (H .delta) z t u s r in
-      let e = join-lane-is (H .delta) t u r l b in
-      rw (lane-notes H z le t s l b, lane-notes H z le u r l b)
-      (all-imp (λ p. Crossed H (laneOf l t) (laneOf l u) (p .0) (p .1)) (λ p. (standsAlone H (p .0) ≡ true → EndsAt (t .beats * H .delta) (notesOf H (laneOf l t))) × (standsAlone H (p .1) ≡ true → StartsAt0 (notesOf H (laneOf l u)))) (seamOf H (t .beats) (cellsAt l (t .cells)) (cellsAt l (u .cells)))
-      (λ p c. (c .last-ends, c .first-starts))
-      (lane-crossed H z le l (laneOf l t) (laneOf l u) (one-lane (H .delta) t s l) (one-lane (H .delta) u r l) (subst (OneLane (H .delta) l) e (one-lane (H .delta) v w l))))

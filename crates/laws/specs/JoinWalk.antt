@@ -6,14 +6,14 @@ use mathlib.Core.Path.{_∙_, _≡_, ap, refl, sym}
 use Prim.Native.Nat.{_+_, _<_, _≤_, min, suc, zero, ℕ}
 use native.Mathlib.Decide.{ℕ-discrete}
 use native.Mathlib.Omega.{arith}
-use lib.Dec.{eqb, leb}
-use borrow.Author.Tests.{eq-eqb, eqb-true, leb-false, leb-true, ne-eqb}
+use lib.Dec.{eqb}
+use borrow.Author.Tests.{eq-eqb, eqb-true, ne-eqb}
 use Rattle.model.specs.Lists.{consIf, countFrom, gather, keep}
-use Rattle.model.specs.Takes.{Take, joinTakes, lanes, notesOf}
+use Rattle.model.specs.Takes.{Take, lanes, notesOf}
 use Rattle.model.specs.declared.Cell.{Cell}
 use Rattle.model.specs.declared.Header.{Header}
 use Rattle.model.specs.declared.Note.{Note}
-use Rattle.laws.specs.JoinLanes.{join-notes, joinLanes}
+use Rattle.laws.specs.JoinLanes.{joinLanes}
 use Rattle.laws.specs.Joining.{cell-lanes}
 use Rattle.laws.specs.Lists.{gather-count, gather-none}
 use Rattle.laws.specs.Notes.{Fair, Follow, fair-notes, follow-lane, ok-pairs}
@@ -139,16 +139,6 @@ unfoldable pub leastLane : List Note → List Cell → List Note → List Cell �
 unfolding laneAhead
 leastLane ms cs ns ds = min (min (laneAhead (λ n. n .lane) ms) (laneAhead (λ c. c .lane) cs)) (min (laneAhead (λ n. n .lane) ns) (laneAhead (λ c. c .lane) ds))
 
--- The walk: the least lane's notes, from what of it stands in front of the lists, and then from what stands behind it; at most n lanes.
-unfoldable pub joinFrom : Header → ℕ → ℕ → List Note → List Cell → List Note → List Cell → List Note
-unfolding leastLane joinLane runOf restOf
-joinFrom H k zero ms cs ns ds = []
-joinFrom H k (suc n) ms cs ns ds =
-    let l = leastLane ms cs ns ds in
-    cond (leb 2048 l) []
-    (joinLane H k (noteRun l ms) (cellRun l cs) (noteRun l ns) (cellRun l ds)
-    ++ joinFrom H k n (noteRest l ms) (cellRest l cs) (noteRest l ns) (cellRest l ds))
-
 module _ {A : Type 0} (lane : A → ℕ) where
   -- the lane in front is the least
   pub from-ahead : (i l : ℕ) (xs : List A) → From lane i xs → l ≤ laneAhead lane xs → From lane l xs
@@ -267,29 +257,6 @@ module _ (i : ℕ) (ms : List Note) (cs : List Cell) (ns : List Note) (ds : List
       let d = ahead-none (λ c. c .lane) i ds (f .second-cells) (omega arith) in
       (λ j. joinLanes H k (a j) (b j) (c j) (d j)) ∙ join-none H k
 
--- the walk gives the lanes one after the other
-pub from-lanes : (H : Header) (k n i : ℕ) (ms : List Note) (cs : List Cell) (ns : List Note) (ds : List Cell) → Four i ms cs ns ds → i ≤ 2048
-    → 2048 ≤ i + n → joinFrom H k n ms cs ns ds ≡ joinLanes H k ms cs ns ds
-unfolding joinFrom
-from-lanes H k zero i ms cs ns ds f b h = sym (least-none i ms cs ns ds f H k (let a = least-above i ms cs ns ds f b in omega arith))
-from-lanes H k (suc n) i ms cs ns ds f b h =
-    let l = leastLane ms cs ns ds in
-    go (leb 2048 l) refl
-    (λ c. from-lanes H k n (suc l) (noteRest l ms) (cellRest l cs) (noteRest l ns) (cellRest l ds)
-    (four-rest l ms cs ns ds (four-least i ms cs ns ds f)) c (let a = least-above i ms cs ns ds f b in omega arith))
-  where
-    go : (t : Bool) → leb 2048 (leastLane ms cs ns ds) ≡ t → (let l = leastLane ms cs ns ds in l < 2048
-        → joinFrom H k n (noteRest l ms) (cellRest l cs) (noteRest l ns) (cellRest l ds) ≡ joinLanes H k (noteRest l ms) (cellRest l cs) (noteRest l ns) (cellRest l ds))
-        → (let l = leastLane ms cs ns ds in
-        cond t [] (joinLane H k (noteRun l ms) (cellRun l cs) (noteRun l ns) (cellRun l ds)
-        ++ joinFrom H k n (noteRest l ms) (cellRest l cs) (noteRest l ns) (cellRest l ds))) ≡ joinLanes H k ms cs ns ds
-    go true e ih = sym (least-none i ms cs ns ds f H k (leb-true 2048 (leastLane ms cs ns ds) e))
-    go false e ih =
-        let l = leastLane ms cs ns ds in
-        let c : leastLane ms cs ns ds < 2048 = leb-false 2048 (leastLane ms cs ns ds) e in
-        ap (_++_ (joinLane H k (noteRun l ms) (cellRun l cs) (noteRun l ns) (cellRun l ds))) (ih c)
-        ∙ sym (join-step H k l ms cs ns ds c (four-least i ms cs ns ds f))
-
 -- ---- a join of two solid takes
 
 module _ (H : Header) (z : 0 < (H .delta)) (le : (H .epsilon) ≤ (H .delta)) (t u : Take) (s : Solid (H .delta) t) (r : Solid (H .delta) u) where
@@ -312,7 +279,3 @@ module _ (H : Header) (z : 0 < (H .delta)) (le : (H .epsilon) ≤ (H .delta)) (t
   -- their notes and cells are in the order of lanes
   pub join-four : Four 0 (notesOf H t) (t .cells) (notesOf H u) (u .cells)
   join-four = record { first-notes = notes-from t s; first-cells = cells-from t s; second-notes = notes-from u r; second-cells = cells-from u r }
-
-  -- the notes of a join by one walk
-  pub join-walk : notesOf H (joinTakes (H .delta) t u) ≡ joinFrom H (t .beats) 2048 (notesOf H t) (t .cells) (notesOf H u) (u .cells)
-  join-walk = join-notes H z le t u s r ∙ sym (from-lanes H (t .beats) 2048 0 (notesOf H t) (t .cells) (notesOf H u) (u .cells) join-four (omega arith) (omega arith))

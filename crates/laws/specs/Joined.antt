@@ -19,7 +19,7 @@ use Rattle.laws.specs.Merging.{merge-second}
 use Rattle.laws.specs.Notes.{Away, Before, Fair, Follow, Long, above, before, later, left, right}
 use Rattle.laws.specs.Order.{aways, walk-fair}
 use Rattle.laws.specs.Partners.{all-parts}
-use Rattle.laws.specs.Relations.{All, all-consIf, all-imp}
+use Rattle.laws.specs.Relations.{All, all-imp}
 use Rattle.laws.specs.Seam.{AtLine, EndsAt, StartsAt0, at-line, bound-at, boundAt, butLast-append, endingAt, joinApart, joinLane, joinOver, last-append, line-end, line-start, lone, one, own-ending, own-starting, seamOf, startingAt0}
 use Rattle.laws.specs.SeamLanes.{AllBefore, CellsOn, NotesOn, merge-apart, merge-later, notes-walk, walk-lane}
 use Rattle.laws.specs.SeamWalk.{Free, Goes, Opened, cellLater, last-all, lastOr, noteLater, opened, walk-bound, walk-free, walk-later}
@@ -341,14 +341,6 @@ module _ (H : Header) (z : 0 < (H .delta)) (le : (H .epsilon) ≤ (H .delta)) (l
       go true e = let k = (over-law c cs d ds s e) .length-is in unfold lone in omega arith
       go false e = apart-length (c ∷ cs) (d ∷ ds) s (is-bound c cs d ds s ∙ e)
 
-  -- the cells that are bound over the line are those of a note that goes over it
-  crossed-cases : (cs ds : List Cell) → Lanes cs ds → All (λ p. Crossed H (takeWith n ti cs) (takeWith m ui ds) (p .0) (p .1)) (seamOf H n cs ds)
-  unfolding seamOf
-  crossed-cases [] ds s = tt
-  crossed-cases (c ∷ cs) [] s = tt
-  crossed-cases (c ∷ cs) (d ∷ ds) s =
-      all-consIf (λ p. Crossed H (takeWith n ti (c ∷ cs)) (takeWith m ui (d ∷ ds)) (p .0) (p .1)) (boundAt H n (lastOr c cs) d) (lastOr c cs, d) [] (λ e. over-law c cs d ds s e) tt
-
 -- the notes of two takes of one lane, one behind the other
 pub lane-join : (H : Header) → 0 < H .delta → H .epsilon ≤ H .delta → (l : ℕ) (t u : Take) → OneLane (H .delta) l t → OneLane (H .delta) l u
     → OneLane (H .delta) l (behind (H .delta) t u) → notesOf H (behind (H .delta) t u) ≡ joinLane H (t .beats) (notesOf H t) (t .cells) (notesOf H u) (u .cells)
@@ -358,8 +350,3 @@ lane-join H z le l t u p q w = lane-cases H z le l (t .beats) (t .inner) (u .bea
 pub lane-length : (H : Header) → 0 < H .delta → H .epsilon ≤ H .delta → (l : ℕ) (t u : Take) → OneLane (H .delta) l t → OneLane (H .delta) l u
     → OneLane (H .delta) l (behind (H .delta) t u) → length (notesOf H (behind (H .delta) t u)) + lone H (seamOf H (t .beats) (t .cells) (u .cells)) ≡ length (notesOf H t) + length (notesOf H u) + length (seamOf H (t .beats) (t .cells) (u .cells))
 lane-length H z le l t u p q w = length-cases H z le l (t .beats) (t .inner) (u .beats) (u .inner) (t .cells) (u .cells) (record { first = p; second = q; both = w })
-
--- the cells that are bound over the line are those of a note that goes over it
-pub lane-crossed : (H : Header) → 0 < H .delta → H .epsilon ≤ H .delta → (l : ℕ) (t u : Take) → OneLane (H .delta) l t → OneLane (H .delta) l u
-    → OneLane (H .delta) l (behind (H .delta) t u) → All (λ p. Crossed H t u (p .0) (p .1)) (seamOf H (t .beats) (t .cells) (u .cells))
-lane-crossed H z le l t u p q w = crossed-cases H z le l (t .beats) (t .inner) (u .beats) (u .inner) (t .cells) (u .cells) (record { first = p; second = q; both = w })

@@ -1,29 +1,20 @@
 -- What the code of lay, split and join follows on solid takes: the notes by one walk, a join by one merge over lanes.
 -- Assumes nothing.
 use mathlib.Core.List.{List, [], _∷_, map}
-use mathlib.Core.Option.{none}
 use mathlib.Core.Path.{_∙_, _≡_, ap, refl, sym}
 use Prim.Native.Nat.{_%_, _*_, _+_, _-_, _/_, _<_, _≤_, ℕ}
 use native.Mathlib.Nat.{add-mul, div-add-mod'}
 use native.Mathlib.Omega.{arith}
 use lib.ListN.{length}
 use Rattle.model.specs.Pieces.{firstBeat}
-use Rattle.model.specs.Takes.{Take, cellTo, joinTakes, laterBy, merge, noteTo, notesOf}
+use Rattle.model.specs.Takes.{Take, cellTo, joinTakes, laterBy, noteTo}
 use Rattle.model.specs.declared.Cell.{Cell}
-use Rattle.model.specs.declared.Header.{Header}
 use Rattle.model.specs.declared.Note.{Note}
 use Rattle.laws.specs.Lanes.{length-mergeLane, merge-lane, mergeLane}
 use Rattle.laws.specs.Lists.{length-map}
 use Rattle.laws.specs.Notes.{Fair, Follow, follow-lane, note-same}
 use Rattle.laws.specs.Relations.{All, Pairs, all-imp, pairs-imp}
 use Rattle.laws.specs.Solid.{Apart, Fine, Solid, beat-up, lane-up, side-up}
-use Rattle.laws.specs.Walk.{line-from, walkFrom}
-
--- a solid take's notes: the inner ones, and those of one walk over the cells
-pub solid-from : (H : Header) → (H .epsilon) ≤ (H .delta) → (t : Take) → Solid (H .delta) t
-    → notesOf H t ≡ merge (t .inner) (walkFrom H none (t .cells))
-unfolding notesOf
-solid-from H le t s = ap (merge (t .inner)) (line-from H le (s .cells-pieced))
 
 module _ {A : Type 0} (lane : A → ℕ) (f : A → A) (same : (x : A) → lane (f x) ≡ lane x) where
   map-all : (P : ℕ → Type 0) (xs : List A) → All (λ x. P (lane x)) xs → All (λ x. P (lane x)) (map f xs)
@@ -59,13 +50,6 @@ module _ (δ : ℕ) (t u : Take) (s : Solid δ t) (r : Solid δ u) where
   length-join-cells =
       let f : Cell → Cell = λ c. cellTo (t .beats + c .beat) c in
       ap length join-cells ∙ length-mergeLane (λ c. c .lane) (t .cells) (map f (u .cells)) ∙ ap (_+_ (length (t .cells))) (length-map f (u .cells))
-
-  pub join-inner : (joinTakes δ t u) .inner ≡ mergeLane (λ n. n .lane) (t .inner) (map (λ n. noteTo δ (t .beats + firstBeat δ n) n) (u .inner))
-  unfolding joinTakes laterBy
-  join-inner =
-      let f : Note → Note = λ n. noteTo δ (t .beats + firstBeat δ n) n in
-      let v = note-lanes δ u r in
-      sym (merge-lane (λ n. n .lane) (t .inner) (map f (u .inner)) (note-lanes δ t s) (map-pairs (λ n. n .lane) f (λ n. refl) (u .inner) (v .0), map-all (λ n. n .lane) f (λ n. refl) (λ l. l < 2048) (u .inner) (v .1)))
 
 -- ---- an inner note in another beat, with no division
 

@@ -48,4 +48,3 @@ pub mod Joined
 pub mod JoinLanes
 pub mod JoinWalk
 pub mod JoinCount
-pub mod JoinShelf

@@ -1,7 +1,7 @@
 -- A property of each element of a list (All), and of each element with every later one (Pairs).
 -- Assumes nothing.
 use mathlib.Core.Bool.{Bool, cond, false, true}
-use mathlib.Core.List.{List, [], _++_, _∷_, map}
+use mathlib.Core.List.{List, [], _++_, _∷_}
 use mathlib.Core.Path.{_∙_, _≡_, ap, refl, sym}
 use Prim.Native.Nat.{_+_, _<_, _≤_, suc, zero, ℕ}
 use native.Mathlib.Decide.{ℕ-discrete}
@@ -38,10 +38,6 @@ module _ {A : Type 0} where
   pub all-kept : (p : A → Bool) (xs : List A) → All (λ x. p x ≡ true) (keep p xs)
   all-kept p [] = tt
   all-kept p (x ∷ xs) = all-consIf (λ x. p x ≡ true) (p x) x (keep p xs) (λ e. e) (all-kept p xs)
-
-  pub all-map : (P : A → Type 0) (f : A → A) (xs : List A) → ((x : A) → P x → P (f x)) → All P xs → All P (map f xs)
-  all-map P f [] h a = tt
-  all-map P f (x ∷ xs) h a = (h x (a .0), all-map P f xs h (a .1))
 
   pub all-gather : {B : Type 0} (P : A → Type 0) (f : B → List A) (xs : List B) → ((x : B) → All P (f x)) → All P (gather f xs)
   all-gather P f [] h = tt

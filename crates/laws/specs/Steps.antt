@@ -21,7 +21,7 @@ use Rattle.laws.specs.Moving.{solid-history}
 use Rattle.laws.specs.OneNote.{Valid}
 use Rattle.laws.specs.Reading.{words-take}
 use Rattle.laws.specs.Relations.{All, all-imp, all-set}
-use Rattle.laws.specs.Sessions.{Whole, length-session, length-words, put-of, sessionOf, shelf-of}
+use Rattle.laws.specs.Sessions.{Whole, length-words, put-of, sessionOf, shelf-of}
 use Rattle.laws.specs.Solid.{Solid}
 
 -- ---- what the header's ranges say
@@ -140,10 +140,6 @@ module _ (m : Machine) (k : Kept m) where
   count-shelves : length (shelvesOf m) ≡ m .header .shelves
   unfolding shelvesOf
   count-shelves = length-map (historyWords (m .header) (m .recordings)) (m .histories) ∙ k .count
-
-  pub length-for : length (sessionFor m) ≡ sessionLength (m .header)
-  unfolding sessionFor
-  length-for = length-session (m .header) (shelvesOf m) whole-shelves ∙ ap (λ (n : ℕ). 4 + n * m .header .words) count-shelves
 
   shelf-at : (i : ℕ) → i < m .header .shelves → getD (shelvesOf m) i [] ≡ historyWords (m .header) (m .recordings) (history m i)
   unfolding shelvesOf

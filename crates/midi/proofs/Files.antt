@@ -1,5 +1,5 @@
 -- How reading a file goes, question by question (9, 10 and 11), and where its track lies. Assumes nothing.
-use mathlib.Core.Bool.{true, false, _&&_}
+use mathlib.Core.Bool.{true, _&&_}
 use mathlib.Core.List.{List}
 use mathlib.Core.Path.{_≡_, _∙_}
 use Prim.Native.Nat.{ℕ, zero, suc, _+_, _-_, _≤_}
@@ -9,7 +9,7 @@ use lib.ListN.{length, take, drop}
 use borrow.Author.Tests.{eqb-true, leb-true}
 use Rattle.laws.specs.Booleans.{and-left, and-right}
 use Rattle.midi.specs.Numbers.{word32}
-use Rattle.midi.specs.Reading.{refused, readTrack, MThd, MTrk, headerThere, headerFits, chunkThere, Chunk, noTrack, track, trackFrom, readFile}
+use Rattle.midi.specs.Reading.{readTrack, MThd, MTrk, headerThere, headerFits, chunkThere, Chunk, noTrack, track, trackFrom, readFile}
 use Rattle.midi.proofs.Branches.{by-test}
 use Rattle.midi.proofs.Loops.{trackAfter, chunks-start}
 
@@ -74,20 +74,8 @@ track-inside s at a n e = rw e at (from-within (suc (length s - at)) s at)
 -- ---- the file
 
 module _ (δ : ℕ) (s : List ℕ) where
-  pub refused-9 : headerThere s ≡ false → readFile δ s ≡ refused 9
-  unfolding readFile
-  refused-9 a = rw (a, readFile)
-
   module _ (a : headerThere s ≡ true) where
-    pub refused-10 : headerFits δ s ≡ false → readFile δ s ≡ refused 10
-    unfolding readFile
-    refused-10 b = rw (a, readFile, b)
-
     module _ (b : headerFits δ s ≡ true) where
-      pub refused-11 : trackAfter s (8 + word32 s 4) ≡ noTrack → readFile δ s ≡ refused 11
-      unfolding readFile
-      refused-11 c = rw (a, readFile, b, chunks-start s (8 + word32 s 4) (omega arith) ∙ c)
-
       pub track-read : (at n : ℕ) → trackAfter s (8 + word32 s 4) ≡ track at n → readFile δ s ≡ readTrack δ (take n (drop at s))
       unfolding readFile
       track-read at n c = rw (a, readFile, b, chunks-start s (8 + word32 s 4) (omega arith) ∙ c)

@@ -55,32 +55,6 @@ pub record Counted (n : ℕ) (bs : List ℕ) : Type 0 where
   pub three : length bs ≡ 3 → (16384 ≤ n) × (n < 2097152)
   pub four : length bs ≡ 4 → 2097152 ≤ n
 
-pub groups-counted : (n : ℕ) → Counted n (quantityBytes n)
-unfolding quantityBytes
-groups-counted n =
-    by-test (Counted n) (ltb n 128)
-    (λ a. record { one = λ e. ltb-true n 128 a; two = λ e. absurd (omega arith); three = λ e. absurd (omega arith); four = λ e. absurd (omega arith) })
-    (λ a. by-test (Counted n) (ltb n 16384)
-    (λ b. record {
-      one = λ e. absurd (omega arith);
-      two = λ e. (ltb-false n 128 a, ltb-true n 16384 b);
-      three = λ e. absurd (omega arith);
-      four = λ e. absurd (omega arith);
-    })
-    (λ b. by-test (Counted n) (ltb n 2097152)
-    (λ c. record {
-      one = λ e. absurd (omega arith);
-      two = λ e. absurd (omega arith);
-      three = λ e. (ltb-false n 16384 b, ltb-true n 2097152 c);
-      four = λ e. absurd (omega arith);
-    })
-    (λ c. record {
-      one = λ e. absurd (omega arith);
-      two = λ e. absurd (omega arith);
-      three = λ e. absurd (omega arith);
-      four = λ e. ltb-false n 2097152 c;
-    })))
-
 -- ---- by leading zeros
 
 -- of a number between 2 ^ j and 2 ^ k, j is below k

@@ -1,25 +1,22 @@
--- What a written file takes: each event three bytes behind its time, and the file a sum of these with a bound by its notes; and all of
--- it is bytes. Assumes nothing.
+-- What a written file takes: each event three bytes behind its time, and the file a sum of these with bounds by its notes and its ticks.
+-- Assumes nothing.
 use mathlib.Core.Bool.{true}
 use mathlib.Core.List.{List, [], _∷_, _++_}
 use mathlib.Core.Path.{_≡_, refl, ap, _∙_}
-use Prim.Native.Nat.{ℕ, suc, _+_, _-_, _*_, _/_, _%_, _≤_, _<_}
-use native.Mathlib.Nat.{mul-le-mul-right}
+use Prim.Native.Nat.{ℕ, suc, _+_, _-_, _*_, _/_, _≤_}
 use native.Mathlib.Omega.{arith}
 use lib.Dec.{leb, ltb}
 use lib.ListN.{length, length-append}
-use borrow.Author.Tests.{ltb-true, ltb-false}
+use borrow.Author.Tests.{ltb-false}
 use Rattle.model.specs.Lists.{gather}
 use Rattle.model.specs.Soundness.{notesOk}
 use Rattle.model.specs.declared.Note.{Note}
-use Rattle.laws.specs.Relations.{All, all-append}
 use Rattle.midi.specs.Numbers.{quantityBytes}
 use Rattle.midi.specs.Writing.{NoteEvent, order, insert, inOrder, eventsOf, messageBytes, endOfTrack, eventBytes, trackBytes, headerBytes, fileBytes}
 use Rattle.midi.proofs.Branches.{by-test}
 use Rattle.midi.proofs.Groups.{quantity-fewest}
 use Rattle.midi.proofs.NoteEvents.{steps}
 use Rattle.midi.proofs.Ranges.{ok-fits}
-use Rattle.midi.proofs.ReadBack.{Writable}
 use Rattle.midi.proofs.Replay.{Steps}
 
 -- ---- lengths
@@ -112,12 +109,6 @@ gathered-length (n ∷ ns) = omega (arith, gathered-length ns)
 pub events-count : (ns : List Note) → length (inOrder (gather eventsOf ns)) ≡ 2 * length ns
 events-count ns = in-order-length (gather eventsOf ns) ∙ gathered-length ns
 
--- At most four bytes of time and three more for each of a note's two events and for the end of track, behind 14 and 8 bytes.
-pub file-most : (δ beats : ℕ) (notes : List Note) → length (fileBytes δ beats notes) ≤ 14 + 8 + 2 * length notes * (3 + 4) + 4 + 3
-file-most δ beats notes =
-    let es = inOrder (gather eventsOf notes) in
-    omega (arith, file-length δ beats notes, events-most (beats * δ) 0 es, events-count notes)
-
 pub track-most : (δ beats : ℕ) (notes : List Note) → length (trackBytes δ beats notes) ≤ 14 * length notes + 7
 track-most δ beats notes =
     let es = inOrder (gather eventsOf notes) in
@@ -129,51 +120,3 @@ pub track-near : (δ beats : ℕ) (notes : List Note) → notesOk δ beats notes
 track-near δ beats notes ok =
     let es = inOrder (gather eventsOf notes) in
     omega (arith, track-length δ beats notes, events-near (beats * δ) 0 es (steps (beats * δ) notes (ok-fits δ beats notes ok)), events-count notes)
-
--- ---- bytes
-
-abbrev pub Bytes : List ℕ → Type 0
-Bytes = All (λ b. b < 256)
-
-pub quantity-bytes : (n : ℕ) → n < 268435456 → Bytes (quantityBytes n)
-unfolding quantityBytes
-quantity-bytes n h =
-    by-test Bytes (ltb n 128) (λ a. let b = ltb-true n 128 a in (omega arith, tt))
-    (λ a. by-test Bytes (ltb n 16384) (λ c. let d = ltb-true n 16384 c in (omega arith, (omega arith, tt)))
-    (λ c. by-test Bytes (ltb n 2097152) (λ e. let f = ltb-true n 2097152 e in (omega arith, (omega arith, (omega arith, tt))))
-    (λ e. (omega arith, (omega arith, (omega arith, (omega arith, tt)))))))
-
-pub message-bytes : (e : NoteEvent) → Writable e → Bytes (messageBytes e)
-unfolding messageBytes
-message-bytes e w = (omega (arith, w .lane-low, w .kind-low), (omega arith, (omega (arith, w .soft), tt)))
-
-event-bytes : (end last : ℕ) (es : List NoteEvent) → end < 268435456 → Steps end last es → Bytes (eventBytes end last es)
-unfolding eventBytes
-event-bytes end last [] h s =
-    all-append (λ b. b < 256) (quantityBytes (end - last)) endOfTrack (quantity-bytes (end - last) (omega arith)) (omega arith, (omega arith, (omega arith, tt)))
-event-bytes end last (e ∷ es) h s =
-    all-append (λ b. b < 256) (quantityBytes (e .tick - last)) (messageBytes e ++ eventBytes end (e .tick) es)
-    (quantity-bytes (e .tick - last) (omega (arith, s .2)))
-    (all-append (λ b. b < 256) (messageBytes e) (eventBytes end (e .tick) es) (message-bytes e (s .0)) (event-bytes end (e .tick) es h (s .3)))
-
-header-bytes : (δ n : ℕ) → δ < 65536 → n < 4294967296 → Bytes (headerBytes δ n)
-unfolding headerBytes
-header-bytes δ n h k =
-    all-append (λ b. b < 256) (77 ∷ 84 ∷ 104 ∷ 100 ∷ 0 ∷ 0 ∷ 0 ∷ 6 ∷ []) (0 ∷ 0 ∷ 0 ∷ 1 ∷ δ / 256 ∷ δ % 256 ∷ track)
-    (omega arith, (omega arith, (omega arith, (omega arith, (omega arith, (omega arith, (omega arith, (omega arith, tt))))))))
-    (all-append (λ b. b < 256) (0 ∷ 0 ∷ 0 ∷ 1 ∷ δ / 256 ∷ δ % 256 ∷ []) track
-    (omega arith, (omega arith, (omega arith, (omega arith, (omega arith, (omega arith, tt))))))
-    (omega arith, (omega arith, (omega arith, (omega arith, (omega arith, (omega arith, (omega arith, (omega arith, tt)))))))))
-  where
-    track : List ℕ
-    track = 77 ∷ 84 ∷ 114 ∷ 107 ∷ n / 16777216 ∷ n / 65536 % 256 ∷ n / 256 % 256 ∷ n % 256 ∷ []
-
--- A file of notes that pass the test of a note list, and of fewer than 300 million of them, is bytes.
-pub file-bytes : (δ beats : ℕ) (notes : List Note) → δ ≤ 32767 → beats ≤ 4096 → notesOk δ beats notes ≡ true → length notes < 300000000
-    → Bytes (fileBytes δ beats notes)
-unfolding fileBytes trackBytes
-file-bytes δ beats notes small short ok few =
-    let t = trackBytes δ beats notes in
-    let k : beats * δ ≤ 4096 * δ = mul-le-mul-right δ short in
-    all-append (λ b. b < 256) (headerBytes δ (length t)) t (header-bytes δ (length t) (omega arith) (omega (arith, track-most δ beats notes)))
-    (event-bytes (beats * δ) 0 (inOrder (gather eventsOf notes)) (omega arith) (steps (beats * δ) notes (ok-fits δ beats notes ok)))

@@ -10,14 +10,11 @@ use lib.ListN.{length, length-append}
 use lib.Seq.{take-length}
 use borrow.Author.Tests.{le-leb, eq-eqb, eqb-true}
 use Rattle.model.specs.Lists.{gather}
-use Rattle.model.specs.Soundness.{notesOk, soundShelf}
-use Rattle.model.specs.Takes.{byLane, word, notesIn, takeIn}
-use Rattle.model.specs.declared.Header.{Header}
+use Rattle.model.specs.Soundness.{notesOk}
+use Rattle.model.specs.Takes.{byLane}
 use Rattle.model.specs.declared.Note.{Note}
 use Rattle.laws.specs.Lists.{gather-count, gather-none}
 use Rattle.laws.specs.Notes.{Follow, follow-lane, ok-pairs}
-use Rattle.laws.specs.Order.{solid-notes}
-use Rattle.laws.specs.Sound.{sound-beats, sound-notes, sound-solid}
 use Rattle.laws.specs.Relations.{All, Pairs, all-imp, all-keep, all-kept, buckets, pairs-imp}
 use Rattle.midi.specs.Lanes.{laneAt}
 use Rattle.midi.specs.Numbers.{word32, quantityBytes}
@@ -140,11 +137,3 @@ pub round-trip : (δ beats : ℕ) (notes : List Note) → 1 ≤ δ → δ ≤ 32
     → readFile δ (fileBytes δ beats notes) ≡ read (record { beats = beats; notes = notes })
 unfolding fileBytes
 round-trip δ beats notes positive small short ok = file-track δ (trackBytes δ beats notes) ∙ track-back δ beats notes positive small short ok
-
--- The file of a sound shelf is read as the shelf's beats and notes.
-pub shelf-round-trip : (H : Header) → 1 ≤ H .delta → H .delta ≤ 32767 → H .epsilon ≤ H .delta → (ws : List ℕ) → soundShelf H ws ≡ true
-    → readFile (H .delta) (fileBytes (H .delta) (word ws 0) (notesIn ws)) ≡ read (record { beats = word ws 0; notes = notesIn ws })
-unfolding takeIn
-shelf-round-trip H positive small le ws e =
-    round-trip (H .delta) (word ws 0) (notesIn ws) positive small (sound-beats H positive ws e)
-    (rw (sound-notes H positive ws e) at (solid-notes H positive le (takeIn (H .delta) ws) (sound-solid H positive ws e)))

@@ -139,14 +139,6 @@ module _ (δ : ℕ) (pos : 0 < δ) (t : ℕ) where
   pub sides-few : t ≤ maxBeats * δ → lineSides δ t ≤ 8192
   sides-few = sides-upto maxBeats
 
-pub sides-later : (δ : ℕ) → 0 < δ → (t u : ℕ) → t ≤ u → lineSides δ t ≤ lineSides δ u
-unfolding lineSides
-sides-later δ pos t u h = go (ltb (t / δ * δ) t) refl
-  where
-    go : (b : Bool) → ltb (t / δ * δ) t ≡ b → 2 * (t / δ) + oneIf b ≤ lineSides δ u
-    go true e = omega (arith, sides-behind δ pos u (t / δ) (omega (arith, ltb-true (t / δ * δ) t e)))
-    go false e = omega (arith, sides-from δ pos u (t / δ) (omega (arith, div-mul-le-self t δ)))
-
 -- a note has as many cells as there are more sides before its end than before its start
 pub sides-between : (δ : ℕ) (n : Note) → (0 < δ) × (δ ≤ maxDelta) × (n .start < n .end) × (n .end ≤ maxBeats * δ)
     → lineSides δ (n .end) ≡ lineSides δ (n .start) + length (cellsOfNote δ n)

@@ -66,12 +66,6 @@ splice-set-before l b [] i w h = refl
 splice-set-before l b (v ∷ ws) i w h =
     rw (set-comm l i b w v (omega arith)) (splice-set-before (set l b v) (suc b) ws i w (omega arith))
 
-pub splice-set-behind : (l : List ℕ) (b : ℕ) (ws : List ℕ) (i w : ℕ) → b + length ws ≤ i → splice (set l i w) b ws ≡ set (splice l b ws) i w
-unfolding splice
-splice-set-behind l b [] i w h = refl
-splice-set-behind l b (v ∷ ws) i w h =
-    rw (set-comm l i b w v (omega arith)) (splice-set-behind (set l b v) (suc b) ws i w (omega arith))
-
 splice-comm-ahead : (l : List ℕ) (b : ℕ) (us : List ℕ) (d : ℕ) (ws : List ℕ) → b + length us ≤ d
     → splice (splice l b us) d ws ≡ splice (splice l d ws) b us
 unfolding splice

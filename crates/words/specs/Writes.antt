@@ -3,10 +3,10 @@ use mathlib.Core.Path.{_≡_, refl, sym, ap, _∙_}
 use mathlib.Core.List.{List, [], _∷_, _++_}
 use Prim.Native.Nat.{ℕ, _+_, _≤_}
 use native.Mathlib.Omega.{arith}
-use lib.ListN.{length, getD, set, take, drop, length-append}
+use lib.ListN.{length, getD, set, length-append}
 use Rattle.words.specs.Apart.{Apart, apart-within}
 use Rattle.words.specs.Splice.{splice, length-splice, splice-append}
-use Rattle.words.specs.Parts.{Same, splice-same, part-same}
+use Rattle.words.specs.Parts.{Same, splice-same}
 
 -- of all, to be written into s₀ from place b on, what stands ahead of place d is written, which makes s, and rest is left
 pub record Writes (s₀ s : List ℕ) (b d : ℕ) (all rest : List ℕ) : Type 0 where
@@ -49,6 +49,3 @@ module _ {s₀ s : List ℕ} {b d : ℕ} {all rest : List ℕ} {a n : ℕ} (w : 
       record {
         at = λ i low high. sym (now .at i low high) ∙ ap (λ (l : List ℕ). getD l i 0) (w .same) ∙ first .at i low high;
       }
-
-  pub writes-part : take n (drop a s) ≡ take n (drop a s₀)
-  writes-part = part-same writes-same (w .long)

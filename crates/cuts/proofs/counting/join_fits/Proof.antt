@@ -20,14 +20,14 @@ shelf-at-requires-2 c κs = place-asks (range (c .before .before .before .pre .a
 contents-at-requires-2 : tie.Need-contents-at-requires-2
 contents-at-requires-2 c κs = contents-asks (second-read (c .before .before .before .before .pre .asks)) (c .shelf-at2 .ensures)
 
-fewer-cells-requires : tie.Need-fewer-cells-requires
-fewer-cells-requires c κs = search needs
+most-pairs-requires : tie.Need-most-pairs-requires
+most-pairs-requires c κs = search needs
 
 counts-fit-requires : tie.Need-counts-fit-requires
-counts-fit-requires c κs = most-asks (c .before .before .before .before .before .before .pre .asks) (read (first-read (c .before .before .before .before .before .before .pre .asks)) (c .before .before .before .before .shelf-at .ensures) (c .before .before .before .contents-at .ensures)) (read (second-read (c .before .before .before .before .before .before .pre .asks)) (c .before .before .shelf-at2 .ensures) (c .before .contents-at2 .ensures)) (c .fewer-cells .ensures)
+counts-fit-requires c κs = most-asks (c .before .before .before .before .before .before .pre .asks) (read (first-read (c .before .before .before .before .before .before .pre .asks)) (c .before .before .before .before .shelf-at .ensures) (c .before .before .before .contents-at .ensures)) (read (second-read (c .before .before .before .before .before .before .pre .asks)) (c .before .before .shelf-at2 .ensures) (c .before .contents-at2 .ensures)) (c .most-pairs .ensures)
 
 returns : tie.Need-returns
-returns c = fits-at-once (c .before .before .before .before .before .before .before .before .pre .asks) (read (first-read (c .before .before .before .before .before .before .before .before .pre .asks)) (c .before .before .before .before .before .before .shelf-at .ensures) (c .before .before .before .before .before .contents-at .ensures)) (read (second-read (c .before .before .before .before .before .before .before .before .pre .asks)) (c .before .before .before .before .shelf-at2 .ensures) (c .before .before .before .contents-at2 .ensures)) (c .before .before .fewer-cells .ensures) (c .before .counts-fit .ensures) (c .if1 .taken)
+returns c = fits-at-once (c .before .before .before .before .before .before .before .before .pre .asks) (read (first-read (c .before .before .before .before .before .before .before .before .pre .asks)) (c .before .before .before .before .before .before .shelf-at .ensures) (c .before .before .before .before .before .contents-at .ensures)) (read (second-read (c .before .before .before .before .before .before .before .before .pre .asks)) (c .before .before .before .before .shelf-at2 .ensures) (c .before .before .before .contents-at2 .ensures)) (c .before .before .most-pairs .ensures) (c .before .counts-fit .ensures) (c .if1 .taken)
 
 mul-count-seams : tie.Need-mul-count-seams
 mul-count-seams c = omega (arith, range (c .before .before .before .before .before .before .before .before .pre .asks), inside-session (range (c .before .before .before .before .before .before .before .before .pre .asks)) ((c .before .before .before .before .before .before .before .before .pre .asks) .first-below) (c .before .before .before .before .before .before .shelf-at .ensures))
@@ -52,7 +52,7 @@ join-fits-spec =
     contents-at-requires
     shelf-at-requires-2
     contents-at-requires-2
-    fewer-cells-requires
+    most-pairs-requires
     counts-fit-requires
     returns
     mul-count-seams
