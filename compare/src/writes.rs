@@ -106,10 +106,14 @@ fn long_list(random: &mut Random, delta: u32) -> Vec<u32> {
     list
 }
 
-/// A long list, laid and written.
+/// A long list, or as many of its notes as the tables for few notes hold and one
+/// more, laid and written.
 pub fn many_notes(random: &mut Random, counts: &mut Counts) -> Result<(), String> {
     let delta = random.pick(&[40, 480, 32_767]);
-    let list = long_list(random, delta);
+    let mut list = long_list(random, delta);
+    if random.one_in(2) {
+        list.truncate(4 * random.pick(&[1_024, 1_025, 1_792, 1_793]));
+    }
     let latest = list.chunks(4).map(|note| note[2]).max().unwrap_or(0);
     let words = inputs::words_used(delta, &list);
     if words > 1_048_576 {

@@ -35,6 +35,15 @@ module _ (f : ℕ → List ℕ) where
       let p : first + (v - first) ≡ v = omega arith in
       rw e (ap (λ (n : ℕ). joined (λ m. f (first + m)) (v - first) ++ f n) p)
 
+  -- parts without events
+  pub span-empty : (first v : ℕ) → ((w : ℕ) → first ≤ w → w < v → f w ≡ []) → span f first v ≡ []
+  unfolding span joined
+  span-empty first v h = empties (v - first) (λ n l. h (first + n) (omega arith) (omega arith))
+    where
+      empties : (n : ℕ) → ((m : ℕ) → m < n → f (first + m) ≡ []) → joined (λ m. f (first + m)) n ≡ []
+      empties zero g = refl
+      empties (suc n) g = rw (empties n (λ m l. g m (omega arith)), g n (omega arith))
+
   parts-on : (first v m : ℕ) → first ≤ v → span f first (m + v) ≡ span f first v ++ span f v (m + v)
   parts-on first v zero h =
       let e : 0 + v ≡ v = omega arith in

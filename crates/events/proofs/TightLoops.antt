@@ -1,21 +1,76 @@
 -- The loop over the first buckets of an output, whose bytes are written over their events; and what is left for the buckets behind them. Assumes nothing.
 use mathlib.Core.Path.{_≡_, refl, sym, ap, ap₂, _∙_}
 use mathlib.Core.Logic.{⊎-elim}
-use mathlib.Core.List.{List, [], _++_}
+use mathlib.Core.List.{List, [], _∷_, _++_, append-nil}
 use Prim.Native.Nat.{ℕ, suc, _+_, _-_, _*_, _≤_, _<_}
 use native.Mathlib.Omega.{arith}
 use lib.ListN.{length, getD, take, length-append}
-use lib.Seq.{ext-getD}
+use lib.Seq.{ext-getD, getD-take, length-take-le}
 use Rattle.words.specs.Splice.{splice, splice-append, length-splice, getD-splice-before, getD-splice-behind, getD-splice-inside}
 use Rattle.radix.specs.Sort.{sort, inserts, length-sort, lt-or-ge}
-use Rattle.buckets.specs.Buckets.{base, Beside}
-use Rattle.events.specs.Windows.{windowBytes, lastTick}
+use Rattle.radix.specs.Ranks.{All}
+use Rattle.order.specs.Windows.{all-sort}
+use Rattle.midi.specs.Numbers.{quantityBytes}
+use Rattle.midi.specs.Writing.{messageBytes}
+use Rattle.midi.proofs.Lengths.{message-length, groups-near}
+use Rattle.track.specs.Keys.{tickOf, eventOf}
+use Rattle.buckets.specs.Buckets.{bucket, base, Beside}
+use Rattle.events.specs.Tracks.{Timed}
+use Rattle.events.specs.Windows.{windowBytes, lastTick, longest, WindowAsks}
 use Rattle.events.specs.Emitting.{eventsFrom, startOf, eventsOf, eventsTo, Noted, Ahead}
 use Rattle.events.specs.Bucketing.{eventsIn, BucketAsks, sortedTo, BucketsAsk, BucketsSorted}
-use Rattle.events.specs.Tight.{bytesIn, TightBucket, TightPut}
-use Rattle.events.proofs.Spans.{span-none, span-next, span-parts, span-same}
+use Rattle.events.specs.Tight.{OneBucket, bytesIn, TightBucket, TightPut}
+use Rattle.events.proofs.EventLoops.{timed-within}
+use Rattle.events.proofs.Spans.{span-none, span-next, span-parts, span-same, span-empty}
 use Rattle.events.proofs.BucketLoops.{window-append, window-long, events-length, events-same, start-next}
-use Rattle.events.proofs.Sorting.{last-append, start-before, left-short, left-timed, sorting-start, bucket-asks}
+use Rattle.events.proofs.Sorting.{tick-low, tick-high, last-append, start-before, left-short, left-timed, sorting-start, bucket-asks}
+
+-- ---- times of one group
+
+-- behind an event of a bucket of at most 128 ticks, the times of the bucket's events
+bucket-times : {width : ℕ} → 0 < width → width ≤ 128 → (v t : ℕ) (ks : List ℕ) → v * width ≤ t → All (λ k. bucket width k ≡ v) ks → length (windowBytes t ks) ≤ 4 * length ks
+unfolding windowBytes
+bucket-times z w v t [] h o = omega arith
+bucket-times {width} z w v t (k ∷ ks) h o =
+    let q : List ℕ = quantityBytes (tickOf k - t) in
+    omega (
+      arith,
+      bucket-times z w v (tickOf k) ks (tick-low width v k (o .0)) (o .1),
+      tick-high width v k z (o .0),
+      groups-near (tickOf k - t),
+      message-length (eventOf k),
+      length-append q (messageBytes (eventOf k)),
+      length-append (q ++ messageBytes (eventOf k)) (windowBytes (tickOf k) ks),
+    )
+
+-- those behind an event before the bucket, by the first of them
+first-time : {width : ℕ} (t : ℕ) (ks : List ℕ) → OneBucket width ks → width ≤ 128 → tickOf (getD ks 0 0) - t < 128 → length (windowBytes t ks) ≤ 4 * length ks
+unfolding windowBytes
+first-time t [] b w h = omega arith
+first-time {width} t (k ∷ ks) b w h =
+    let q : List ℕ = quantityBytes (tickOf k - t) in
+    omega (
+      arith,
+      bucket-times (b .some) w (b .v) (tickOf k) ks (tick-low width (b .v) k (b .own .0)) (b .own .1),
+      groups-near (tickOf k - t),
+      message-length (eventOf k),
+      length-append q (messageBytes (eventOf k)),
+      length-append (q ++ messageBytes (eventOf k)) (windowBytes (tickOf k) ks),
+    )
+
+timed-first : {end t : ℕ} (ks : List ℕ) → Timed end t ks → 0 < length ks → (t ≤ tickOf (getD ks 0 0)) × (tickOf (getD ks 0 0) ≤ end)
+timed-first [] s h = absurd (omega arith)
+timed-first (k ∷ ks) (Timed.next h s) l = (h, timed-within s)
+
+module _ {a : List ℕ} {m tick : ℕ} (w : WindowAsks a m tick) (s : 0 < m) where
+  first-at : getD (take m a) 0 0 ≡ getD a 0 0
+  first-at = getD-take m a 0 0 s
+
+  pub first-tick : (tick ≤ tickOf (getD a 0 0)) × (tickOf (getD a 0 0) ≤ longest)
+  first-tick = rw first-at at (timed-first (take m a) (w .timed) (omega (arith, length-take-le m a (w .inside))))
+
+  pub times-short : {width : ℕ} → OneBucket width (take m a) → width ≤ 128 → tickOf (getD a 0 0) - tick < 128 → length (windowBytes tick (take m a)) ≤ 4 * m
+  times-short b l h = omega (arith, first-time tick (take m a) b l (rw first-at h), length-take-le m a (w .inside))
 
 -- ---- one bucket
 
@@ -28,17 +83,22 @@ module _ {width v from upto tick : ℕ} {out : List ℕ} (s : BucketAsks width v
       record { reached = rw e (omega arith); ended = rw e; tight = λ l. rw e; loose = λ l. refl }
 
   -- a table of them in order
-  module _ (a : List ℕ) (e : take (upto - from) a ≡ sort (eventsIn width v from upto out)) {place last : ℕ}
-      (p : place ≡ 22 + 4 * from + length (windowBytes tick (take (upto - from) a))) (q : last ≡ lastTick tick (take (upto - from) a)) where
-    pub tight-room : place ≤ 22 + 4 * upto → 22 + 4 * from + length (windowBytes tick (take (upto - from) a)) ≤ length out
-    tight-room h = omega (arith, s .holds .inside)
+  module _ (a : List ℕ) (e : take (upto - from) a ≡ sort (eventsIn width v from upto out)) where
+    -- they are of one bucket
+    pub tight-one : OneBucket width (take (upto - from) a)
+    tight-one = record { some = s .holds .some; v = v; own = rw e (all-sort (λ k. bucket width k ≡ v) (eventsIn width v from upto out) (s .holds .own)) }
 
-    pub tight-not : 22 + 4 * upto < place → TightBucket width v from upto tick out out place last
-    tight-not h = record { reached = rw e at p; ended = rw e at q; tight = λ l. absurd (omega arith); loose = λ l. refl }
+    pub tight-room : length (windowBytes tick (take (upto - from) a)) ≤ 4 * (upto - from) → 22 + 4 * from + length (windowBytes tick (take (upto - from) a)) ≤ length out
+    tight-room h = omega (arith, s .holds .inside, s .holds .order)
 
-    pub tight-written : {after : List ℕ} → place ≤ 22 + 4 * upto → after ≡ splice out (22 + 4 * from) (windowBytes tick (take (upto - from) a))
-        → TightBucket width v from upto tick out after place last
-    tight-written h g = record { reached = rw e at p; ended = rw e at q; tight = λ l. rw e at g; loose = λ l. absurd (omega arith) }
+    -- and how far their bytes come
+    module _ {place last : ℕ} (p : place ≡ 22 + 4 * from + length (windowBytes tick (take (upto - from) a))) (q : last ≡ lastTick tick (take (upto - from) a)) where
+      pub tight-not : 22 + 4 * upto < place → TightBucket width v from upto tick out out place last
+      tight-not h = record { reached = rw e at p; ended = rw e at q; tight = λ l. absurd (omega arith); loose = λ l. refl }
+
+      pub tight-written : {after : List ℕ} → length (windowBytes tick (take (upto - from) a)) ≤ 4 * (upto - from)
+          → after ≡ splice out (22 + 4 * from) (windowBytes tick (take (upto - from) a)) → TightBucket width v from upto tick out after place last
+      tight-written h g = record { reached = rw e at p; ended = rw e at q; tight = λ l. rw e at g; loose = λ l. absurd (omega (arith, s .holds .order)) }
 
 -- ---- the loop
 
@@ -53,6 +113,10 @@ splice-standing l b ws fits h =
     inside i q k =
         let e : i ≡ b + (i - b) = omega arith in
         rw e (getD-splice-inside l b ws (i - b) (omega arith) fits ∙ sym (h (i - b) (omega arith)))
+
+-- behind the last bucket with events
+pub last-start : (ends : List ℕ) (v : ℕ) → getD ends v 0 ≡ getD ends 2047 0 → startOf ends (v + 1) ≡ getD ends 2047 0
+last-start ends v n = let j : v + 1 ≡ suc v = omega arith in rw j (start-next ends v ∙ n)
 
 pub tight-start : (width : ℕ) (ends out : List ℕ) → TightPut width ends out out 0 22 0
 unfolding windowBytes lastTick splice startOf
@@ -85,6 +149,38 @@ module _ {width : ℕ} {ends out₀ : List ℕ} (s : BucketsAsk width 0 22 0 end
 
   left-same : sortedTo width ends out v 2048 ≡ sortedTo width ends out₀ v 2048
   left-same = span-same (λ w. sort (eventsOf width ends out w)) (λ w. sort (eventsOf width ends out₀ w)) v 2048 (λ w q l. ap sort (left-events w q l))
+
+  -- no events are left
+  module _ (n : startOf ends v ≡ getD ends 2047 0) where
+    none-left : (w : ℕ) → v ≤ w → w < 2048 → sort (eventsOf width ends out₀ w) ≡ []
+    unfolding eventsFrom sort inserts
+    none-left w q l =
+        let e : getD ends w 0 - startOf ends w ≡ 0 =
+        omega (
+          arith,
+          start-before (s .bounds) v w q (omega arith),
+          start-before (s .bounds) (suc w) 2048 (omega arith) (omega arith),
+          start-next ends w,
+          start-next ends 2047,
+        )
+        in
+        rw e
+
+    all-done : sortedTo width ends out₀ 0 2047 ≡ done
+    all-done =
+        let f : ℕ → List ℕ = λ w. sort (eventsOf width ends out₀ w) in
+        span-parts f 0 v 2047 (omega arith) (omega (arith, t .early)) ∙ ap (_++_ done) (span-empty f v 2047 (λ w q l. none-left w q (omega arith))) ∙ append-nil done
+
+    pub tight-rest : TightPut width ends out₀ out 2047 at tick
+    tight-rest =
+        let l : v ≤ 2047 = omega (arith, t .early) in
+        record {
+          early = omega arith;
+          bytes = rw all-done (t .bytes);
+          reached = rw all-done (t .reached);
+          tight = omega (arith, t .tight, start-before (s .bounds) v 2047 l (omega arith), start-before (s .bounds) 2047 2048 (omega arith) (omega arith), start-next ends 2047);
+          ended = rw all-done (t .ended);
+        }
 
   -- what is left to the buckets behind
   pub tight-asks : BucketsAsk width v at tick ends out

@@ -5,9 +5,17 @@ use Prim.Native.Nat.{ℕ, _+_, _*_, _≤_, _<_}
 use lib.ListN.{length}
 use Rattle.words.specs.Splice.{splice}
 use Rattle.radix.specs.Sort.{sort}
+use Rattle.radix.specs.Ranks.{All}
+use Rattle.buckets.specs.Buckets.{bucket}
 use Rattle.events.specs.Windows.{windowBytes, lastTick}
 use Rattle.events.specs.Emitting.{startOf}
 use Rattle.events.specs.Bucketing.{eventsIn, sortedTo}
+
+-- All events are of one bucket.
+pub record OneBucket (width : ℕ) (ks : List ℕ) : Type 0 where
+  pub some : 0 < width
+  pub v : ℕ
+  pub own : All (λ k. bucket width k ≡ v) ks
 
 -- The bytes of the events of bucket v in order.
 abbrev pub bytesIn : ℕ → ℕ → ℕ → ℕ → ℕ → List ℕ → List ℕ

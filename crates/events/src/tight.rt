@@ -1,9 +1,12 @@
 // The bytes of the first buckets of an output, written over their events as long as each event takes four bytes: a bucket's bytes then lie just
 // where its events stand, so that its events are read only once and need not be written back in order.
-ghost use Prim.Native.Nat.{_+_, _*_, _≤_};
-ghost use lib.ListN.{length};
+ghost use mathlib.Core.Path.{_≡_};
+ghost use mathlib.Core.Bool.{true};
+ghost use Prim.Native.Nat.{_+_, _*_, _≤_, _<_};
+ghost use lib.ListN.{length, take};
+ghost use Rattle.events.specs.Windows.{windowBytes, WindowAsks};
 ghost use Rattle.events.specs.Bucketing.{SortRoom, BucketAsks, BucketsAsk};
-ghost use Rattle.events.specs.Tight.{TightBucket, TightPut};
+ghost use Rattle.events.specs.Tight.{OneBucket, TightBucket, TightPut};
 use crate::bucketing;
 use crate::windows;
 use crate::windows::Reached;
@@ -13,6 +16,18 @@ pub struct Front {
     pub bucket: usize,
     pub at: usize,
     pub tick: u32,
+}
+
+// Is each time of a bucket's events in order surely of one group? Within a bucket of at most 128 ticks it is; so only the time up to the first event
+// is looked at.
+fn times_short(a: &[u64], m: usize, width: u32, tick: u32) -> bool
+    requires { ⌜ WindowAsks (now a) m tick × (0 < m) × OneBucket width (take m (now a)) ⌝ }
+    ensures { λ r. ⌜ (r ≡ true → length (windowBytes tick (take m (now (a .entry)))) ≤ 4 * m) ⌝ }
+{
+    if 128 < width {
+        return false;
+    }
+    windows::tick_of(a[0]) - tick < 128
 }
 
 // Writes the bytes of bucket v over its events, if they are no longer than these: else they would reach into the next bucket. Returns how far they
@@ -38,9 +53,11 @@ fn put_tight_bucket(
     }
     let m = upto - from;
     bucketing::read_sorted(out, width, v, from, upto, a, b, places);
-    let reached = windows::window_length(a, m, at, tick);
-    if end < reached.at {
-        return reached;
+    if !times_short(a, m, width, tick) {
+        let reached = windows::window_length(a, m, at, tick);
+        if end < reached.at {
+            return reached;
+        }
     }
     windows::put_window(out, at, tick, a, m)
 }
@@ -58,6 +75,7 @@ pub fn put_tight(
     requires { ⌜ BucketsAsk width 0 22 0 (now ends) (now out) × (2048 ≤ length (now ends)) × SortRoom (now a) (now b) (now places) ⌝ }
     ensures { λ r. ⌜ TightPut width (now (ends .entry)) (now (out .entry)) (now (out .exit)) (r .bucket) (r .at) (r .tick) ⌝ }
 {
+    let all = ends[2047] as usize;
     let mut from: usize = 0;
     let mut tick: u32 = 0;
     let mut v: usize = 0;
@@ -73,7 +91,7 @@ pub fn put_tight(
         }
         from = upto;
         tick = reached.tick;
-        v += 1;
+        v = if upto == all { 2047 } else { v + 1 };
     }
     Front {
         bucket: v,

@@ -14,7 +14,7 @@ pub struct Reached {
 }
 
 // The tick of an event, from its number.
-fn tick_of(event: u64) -> u32
+pub fn tick_of(event: u64) -> u32
     requires { ⌜ tickOf event ≤ 4294967295 ⌝ }
     ensures { λ r. ⌜ r ≡ tickOf event ⌝ }
 {

@@ -68,8 +68,8 @@ events-most end last (e ∷ es) = go (events-most end (e .tick) es)
         → length (quantityBytes (e .tick - last)) + 3 + eventsLength end (e .tick) es ≤ 7 * suc (length es) + 7
     go ih = omega (arith, quantity-fewest (e .tick - last) .four)
 
--- a time takes a further group for 128 ticks at least
-groups-near : (n : ℕ) → length (quantityBytes n) ≤ 1 + n / 128
+-- A time takes a further group for 128 ticks at least.
+pub groups-near : (n : ℕ) → length (quantityBytes n) ≤ 1 + n / 128
 unfolding quantityBytes
 groups-near n =
     by-test near (ltb n 128) (λ a. omega arith)

@@ -1,7 +1,9 @@
 -- `events::tight::put_tight_bucket` meets its contract. Assumes nothing.
+use mathlib.Core.Logic.{⊎-elim}
 use native.Mathlib.Omega.{arith}
+use borrow.Author.Tests.{not-false}
 use Rattle.events.proofs.Sorting.{window-asks, window-short}
-use Rattle.events.proofs.TightLoops.{tight-empty, tight-room, tight-not, tight-written}
+use Rattle.events.proofs.TightLoops.{tight-empty, tight-one, tight-room, tight-not, tight-written}
 use borrow.Author.Needs.{needs}
 use Rattle.events.proofs.tight.put_tight_bucket.Statement.{statement}
 use Rattle.events.proofs.tight.put_tight_bucket.Tie as tie
@@ -27,8 +29,11 @@ sub-m c = search needs
 read-sorted-requires : tie.Need-read-sorted-requires
 read-sorted-requires c κs = (c .before .before .before .before .before .before .before .before .before .pre .0 .holds, c .before .before .before .before .before .before .before .before .before .pre .1)
 
+times-short-requires : tie.Need-times-short-requires
+times-short-requires c κs = let s = c .before .before .before .before .before .before .before .before .before .before .before .before .before .before .before .before .before .pre .0 in let r = c .before .before .before .before .before .before .before .read-sorted .ensures in (window-asks s _ (search needs) r, omega arith, tight-one s _ r)
+
 window-length-requires : tie.Need-window-length-requires
-window-length-requires c κs = let s = c .before .before .before .before .before .before .before .before .before .before .before .before .before .before .before .before .before .pre .0 in (window-asks s _ (search needs) (c .before .before .before .before .before .before .before .read-sorted .ensures), window-short s _ (search needs) (c .before .before .before .before .before .before .before .read-sorted .ensures))
+window-length-requires c κs = let s = c .before .before .before .before .before .before .before .before .before .before .before .before .before .before .before .before .before .before .before .before .pre .0 in let r = c .before .before .before .before .before .before .before .before .before .before .read-sorted .ensures in (window-asks s _ (search needs) r, window-short s _ (search needs) r)
 
 same-length : tie.Need-same-length
 same-length c = search needs
@@ -43,10 +48,10 @@ same-length-4 : tie.Need-same-length-4
 same-length-4 c = search needs
 
 returns-2 : tie.Need-returns-2
-returns-2 c = tight-not (c .before .before .before .before .before .before .before .before .before .before .before .before .before .before .before .before .before .before .before .before .pre .0) _ (c .before .before .before .before .before .before .before .before .before .before .read-sorted .ensures) (c .before .before .window-length .ensures .0) (c .before .before .window-length .ensures .1) (omega (arith, c .if2 .taken))
+returns-2 c = tight-not (c .before .before .before .before .before .before .before .before .before .before .before .before .before .before .before .before .before .before .before .before .before .before .before .pre .0) _ (c .before .before .before .before .before .before .before .before .before .before .before .before .before .read-sorted .ensures) (c .before .before .window-length .ensures .0) (c .before .before .window-length .ensures .1) (omega (arith, c .if3 .taken))
 
 put-window-requires : tie.Need-put-window-requires
-put-window-requires c κs = let s = c .before .before .before .before .before .before .before .before .before .before .before .before .before .before .before .before .before .before .before .before .before .before .pre .0 in let r = c .before .before .before .before .before .before .before .before .before .before .before .before .read-sorted .ensures in let w = c .before .before .before .before .window-length .ensures in (window-asks s _ (search needs) r, tight-room s _ r (w .0) (w .1) (omega (arith, c .before .before .if2 .left)))
+put-window-requires c κs = let s = c .before .before .before .before .before .before .before .before .before .before .before .before .before .before .before .before .before .before .before .before .before .pre .0 in let r = c .before .before .before .before .before .before .before .before .before .before .before .read-sorted .ensures in (window-asks s _ (search needs) r, tight-room s _ r (⊎-elim (λ w. omega (arith, w .2 .ensures .0, w .4 .left)) (λ w. c .before .before .before .times-short .ensures (not-false _ (w .left))) (c .before .before .if2 .came)))
 
 same-length-5 : tie.Need-same-length-5
 same-length-5 c = search needs
@@ -61,7 +66,7 @@ same-length-8 : tie.Need-same-length-8
 same-length-8 c = search needs
 
 returns-3 : tie.Need-returns-3
-returns-3 c = let p = c .before .before .put-window .ensures in let w = c .before .before .before .before .before .before .before .window-length .ensures in tight-written (c .before .before .before .before .before .before .before .before .before .before .before .before .before .before .before .before .before .before .before .before .before .before .before .before .before .pre .0) _ (c .before .before .before .before .before .before .before .before .before .before .before .before .before .before .before .read-sorted .ensures) (p .0 .0) (p .0 .1) (omega (arith, p .0 .0, w .0, c .before .before .before .before .before .if2 .left)) (p .1)
+returns-3 c = let p = c .before .before .put-window .ensures in tight-written (c .before .before .before .before .before .before .before .before .before .before .before .before .before .before .before .before .before .before .before .before .before .before .before .before .pre .0) _ (c .before .before .before .before .before .before .before .before .before .before .before .before .before .before .read-sorted .ensures) (p .0 .0) (p .0 .1) (⊎-elim (λ w. omega (arith, w .2 .ensures .0, w .4 .left)) (λ w. c .before .before .before .before .before .before .times-short .ensures (not-false _ (w .left))) (c .before .before .before .before .before .if2 .came)) (p .1)
 
 pub put-tight-bucket-spec : {M : Type 1} → statement M
 put-tight-bucket-spec =
@@ -74,6 +79,7 @@ put-tight-bucket-spec =
     returns
     sub-m
     read-sorted-requires
+    times-short-requires
     window-length-requires
     same-length
     same-length-2
