@@ -157,6 +157,7 @@ fn long_round(round: u64, random: &mut Random, counts: &mut Counts) -> Result<()
         loads::cut_off(random, counts)?;
         joins::long_list(random, counts)?;
         writes::many_notes(random, counts)?;
+        writes::around_a_group(random, counts)?;
     }
     Ok(())
 }

@@ -68,11 +68,7 @@ fn many_lanes(
             list.extend([lane, ticks[first], ticks[last], random.between(1, 127)]);
         }
     }
-    let words = inputs::words_used(delta, &list);
-    let mut pair = Pair::new(inputs::words(random, 4 + words as usize));
-    pair.open([delta, 1, 1, words], counts)?;
-    pair.lay(0, beats, &list, counts)?;
-    around(random, &pair, 0, counts)
+    laid(random, delta, beats, &list, counts)
 }
 
 /// All 2,048 lanes; and 4,096 beats of the longest, whose times take four
@@ -115,13 +111,43 @@ pub fn many_notes(random: &mut Random, counts: &mut Counts) -> Result<(), String
         list.truncate(4 * random.pick(&[1_024, 1_025, 1_792, 1_793]));
     }
     let latest = list.chunks(4).map(|note| note[2]).max().unwrap_or(0);
-    let words = inputs::words_used(delta, &list);
+    laid(random, delta, latest.div_ceil(delta), &list, counts)
+}
+
+/// Times of about 128 ticks, from which on they take another byte.
+pub fn around_a_group(random: &mut Random, counts: &mut Counts) -> Result<(), String> {
+    (127..131).try_for_each(|width| one_bucket(random, width, counts))
+}
+
+/// Some 1,800 notes in as many lanes, whose events the engine keeps in buckets
+/// of so many ticks. One bucket has events at its first and its last tick alone.
+fn one_bucket(random: &mut Random, width: u32, counts: &mut Counts) -> Result<(), String> {
+    let lanes = random.between(1_793, 1_900);
+    let end = (width * lanes).div_ceil(128) - 1;
+    let mut list =
+        vec![0, 3 * width, 4 * width - 1, 64, 1, 2 * width + width / 2, 3 * width - 1, 64];
+    for lane in 2..lanes {
+        let [start, end] = [random.below(width), width + random.below(width)];
+        list.extend([lane, start, end, random.between(1, 127)]);
+    }
+    laid(random, end, 1, &list, counts)
+}
+
+/// A list laid in a shelf that it fills, and written.
+fn laid(
+    random: &mut Random,
+    delta: u32,
+    beats: u32,
+    list: &[u32],
+    counts: &mut Counts,
+) -> Result<(), String> {
+    let words = inputs::words_used(delta, list);
     if words > 1_048_576 {
         return Ok(());
     }
     let mut pair = Pair::new(inputs::words(random, 4 + words as usize));
     pair.open([delta, 1, 1, words], counts)?;
-    pair.lay(0, latest.div_ceil(delta), &list, counts)?;
+    pair.lay(0, beats, list, counts)?;
     around(random, &pair, 0, counts)
 }
 
