@@ -102,13 +102,13 @@ fn long_list(random: &mut Random, delta: u32) -> Vec<u32> {
     list
 }
 
-/// A long list, or as many of its notes as the tables for few notes hold and one
+/// A long list, or as many of its notes as the table for few notes holds and one
 /// more, laid and written.
 pub fn many_notes(random: &mut Random, counts: &mut Counts) -> Result<(), String> {
     let delta = random.pick(&[40, 480, 32_767]);
     let mut list = long_list(random, delta);
     if random.one_in(2) {
-        list.truncate(4 * random.pick(&[1_024, 1_025, 1_792, 1_793]));
+        list.truncate(4 * random.pick(&[1_024, 1_025]));
     }
     let latest = list.chunks(4).map(|note| note[2]).max().unwrap_or(0);
     laid(random, delta, latest.div_ceil(delta), &list, counts)

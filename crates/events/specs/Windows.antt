@@ -30,6 +30,6 @@ pub record WindowAsks (a : List ℕ) (m tick : ℕ) : Type 0 where
 pub record TableAsks (a : List ℕ) (count end : ℕ) : Type 0 where
   pub inside : 2 * count ≤ length a
   pub timed : Timed end 0 (take (2 * count) a)
-  pub few : count ≤ 2048
+  pub few : count ≤ 1024
   pub short : end ≤ longest
   pub bound : length (trackLeft end 0 (take (2 * count) a)) ≤ trackMost count end

@@ -44,13 +44,6 @@ pub record Room (pos ends to a b places : List ℕ) : Type 0 where
   pub there : 2048 ≤ length b
   pub table : 2048 ≤ length places
 
--- Room for all events of so many notes, twice, and for the counts of their digits.
-pub record EventRoom (count : ℕ) (a b places : List ℕ) : Type 0 where
-  pub few : count ≤ 2048
-  pub here : 2 * count ≤ length a
-  pub there : 2 * count ≤ length b
-  pub table : 2048 ≤ length places
-
 -- The file of some notes' words, and of a shelf's words; its length if it fits an output, and else 0; and the output with it.
 abbrev pub fileOf : List ℕ → ℕ → ℕ → ℕ → List ℕ
 fileOf s count δ beats = fileBytes δ beats (readNotes count s)

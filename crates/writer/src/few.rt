@@ -6,7 +6,7 @@ ghost use lib.ListN.{length, take};
 ghost use Rattle.words.specs.Splice.{splice};
 ghost use Rattle.events.specs.Tracks.{trackLeft};
 ghost use Rattle.events.specs.Windows.{TableAsks};
-ghost use Rattle.writer.specs.Files.{FileAsks, EventRoom, fileOf, countOf, outputOf};
+ghost use Rattle.writer.specs.Files.{FileAsks, fileOf, countOf, outputOf};
 use crate::files;
 use events::tracks;
 use events::windows;
@@ -33,49 +33,28 @@ fn put_track(out: &mut [u8], a: &[u64], count: usize, end: u32) -> usize
     putting::put_end(out, reached.at, end - reached.tick)
 }
 
-// The file of a shelf's notes, if it fits the output. Returns its length, or 0 if it does not fit. The tables are lent, as large as the notes need.
-fn put_sorted(
-    s: &[u32],
-    count: usize,
-    delta: u32,
-    beats: u32,
-    a: &mut [u64],
-    b: &mut [u64],
-    places: &mut [u16],
-    out: &mut [u8],
-) -> usize
-    requires { ⌜ FileAsks (now s) count delta beats × EventRoom count (now a) (now b) (now places) × (beats * delta ≤ 2097151) ⌝ }
-    ensures { λ r. ⌜ (r ≡ countOf (fileOf (now (s .entry)) count delta beats) (now (out .entry))) × (now (out .exit) ≡ outputOf (fileOf (now (s .entry)) count delta beats) (now (out .entry))) ⌝ }
-{
-    let end = beats * delta;
-    order::put_all(s, count, a);
-    radix::sort(a, b, 2 * count, places, 0, 2 * (end as u64) + 2);
-    if !fits(a, count, end, out.len()) {
-        return 0;
-    }
-    let behind = put_track(out, a, count, end);
-    files::put_header(out, delta, (behind - 22) as u32);
-    behind
-}
-
-// The file of at most 1,024 notes: the smaller the tables, the less there is to clear.
-pub fn put_to_1024(s: &[u32], count: usize, delta: u32, beats: u32, out: &mut [u8]) -> usize
+// The file of a shelf's notes, if it fits the output. Returns its length, or 0 if it does not fit.
+pub fn put_few(s: &[u32], count: usize, delta: u32, beats: u32, out: &mut [u8]) -> usize
     requires { ⌜ FileAsks (now s) count delta beats × (count ≤ 1024) × (beats * delta ≤ 2097151) ⌝ }
     ensures { λ r. ⌜ (r ≡ countOf (fileOf (now (s .entry)) count delta beats) (now (out .entry))) × (now (out .exit) ≡ outputOf (fileOf (now (s .entry)) count delta beats) (now (out .entry))) ⌝ }
 {
     let mut a = [0u64; 2048];
     let mut b = [0u64; 2048];
     let mut places = [0u16; 2048];
-    put_sorted(s, count, delta, beats, &mut a, &mut b, &mut places, out)
-}
-
-// The file of at most 1,792 notes: larger tables would not leave the stack below 64 KB.
-pub fn put_to_1792(s: &[u32], count: usize, delta: u32, beats: u32, out: &mut [u8]) -> usize
-    requires { ⌜ FileAsks (now s) count delta beats × (count ≤ 1792) × (beats * delta ≤ 2097151) ⌝ }
-    ensures { λ r. ⌜ (r ≡ countOf (fileOf (now (s .entry)) count delta beats) (now (out .entry))) × (now (out .exit) ≡ outputOf (fileOf (now (s .entry)) count delta beats) (now (out .entry))) ⌝ }
-{
-    let mut a = [0u64; 3584];
-    let mut b = [0u64; 3584];
-    let mut places = [0u16; 2048];
-    put_sorted(s, count, delta, beats, &mut a, &mut b, &mut places, out)
+    let end = beats * delta;
+    order::put_all(s, count, &mut a);
+    radix::sort(
+        &mut a,
+        &mut b,
+        2 * count,
+        &mut places,
+        0,
+        2 * (end as u64) + 2,
+    );
+    if !fits(&a, count, end, out.len()) {
+        return 0;
+    }
+    let behind = put_track(out, &a, count, end);
+    files::put_header(out, delta, (behind - 22) as u32);
+    behind
 }

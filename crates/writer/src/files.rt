@@ -81,17 +81,14 @@ fn put_long_file(s: &[u32], count: usize, delta: u32, beats: u32, out: &mut [u8]
 }
 
 // The file of a shelf's notes, if it fits the output. Returns its length, or 0 if it does not fit. The events of few notes stand in one table,
-// which takes fewer passes than the ways for many.
+// which is less to clear than the tables for many.
 pub fn put_file(s: &[u32], count: usize, delta: u32, beats: u32, out: &mut [u8]) -> usize
     requires { ⌜ FileAsks (now s) count delta beats ⌝ }
     ensures { λ r. ⌜ (r ≡ countOf (fileOf (now (s .entry)) count delta beats) (now (out .entry))) × (now (out .exit) ≡ outputOf (fileOf (now (s .entry)) count delta beats) (now (out .entry))) ⌝ }
 {
-    if beats * delta <= 2097151 {
-        if count <= 1024 {
-            return few::put_to_1024(s, count, delta, beats, out);
-        }
-        if count <= 1792 {
-            return few::put_to_1792(s, count, delta, beats, out);
+    if count <= 1024 {
+        if beats * delta <= 2097151 {
+            return few::put_few(s, count, delta, beats, out);
         }
     }
     put_long_file(s, count, delta, beats, out)

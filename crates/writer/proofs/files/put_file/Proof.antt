@@ -5,11 +5,11 @@ use borrow.Author.Needs.{needs}
 use Rattle.writer.proofs.files.put_file.Statement.{statement}
 use Rattle.writer.proofs.files.put_file.Tie as tie
 
-mul-if1 : tie.Need-mul-if1
-mul-if1 c = omega (arith, end-short (c .before .before .pre))
+mul-if2 : tie.Need-mul-if2
+mul-if2 c = omega (arith, end-short (c .before .before .before .pre))
 
-put-to-1024-requires : tie.Need-put-to-1024-requires
-put-to-1024-requires c κs = search needs
+put-few-requires : tie.Need-put-few-requires
+put-few-requires c κs = search needs
 
 same-length : tie.Need-same-length
 same-length c = search needs
@@ -17,8 +17,8 @@ same-length c = search needs
 returns : tie.Need-returns
 returns c = search needs
 
-put-to-1792-requires : tie.Need-put-to-1792-requires
-put-to-1792-requires c κs = search needs
+put-long-file-requires : tie.Need-put-long-file-requires
+put-long-file-requires c κs = search needs
 
 same-length-2 : tie.Need-same-length-2
 same-length-2 c = search needs
@@ -26,26 +26,14 @@ same-length-2 c = search needs
 returns-2 : tie.Need-returns-2
 returns-2 c = search needs
 
-put-long-file-requires : tie.Need-put-long-file-requires
-put-long-file-requires c κs = search needs
-
-same-length-3 : tie.Need-same-length-3
-same-length-3 c = search needs
-
-returns-3 : tie.Need-returns-3
-returns-3 c = search needs
-
 pub put-file-spec : {M : Type 1} → statement M
 put-file-spec =
     tie.close
     (tie.spec
-    mul-if1
-    put-to-1024-requires
+    mul-if2
+    put-few-requires
     same-length
     returns
-    put-to-1792-requires
-    same-length-2
-    returns-2
     put-long-file-requires
-    same-length-3
-    returns-3)
+    same-length-2
+    returns-2)
