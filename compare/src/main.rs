@@ -158,6 +158,7 @@ fn long_round(round: u64, random: &mut Random, counts: &mut Counts) -> Result<()
         joins::long_list(random, counts)?;
         writes::many_notes(random, counts)?;
         writes::around_a_group(random, counts)?;
+        writes::within_few_ticks(random, counts)?;
     }
     Ok(())
 }

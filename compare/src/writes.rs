@@ -1,6 +1,6 @@
 //! Writes: of takes that lists of calls made, to outputs around the file's
-//! length, of takes at the limits, of thousands of notes, and of shelves with a
-//! damaged word.
+//! length, of takes at the limits, of thousands of notes, also within few ticks,
+//! and of shelves with a damaged word.
 
 use crate::inputs;
 use crate::pair::{Counts, Pair};
@@ -129,6 +129,30 @@ fn one_bucket(random: &mut Random, width: u32, counts: &mut Counts) -> Result<()
     for lane in 2..lanes {
         let [start, end] = [random.below(width), width + random.below(width)];
         list.extend([lane, start, end, random.between(1, 127)]);
+    }
+    laid(random, end, 1, &list, counts)
+}
+
+/// More than 1,024 notes within some 1,000 ticks, whose events the engine puts
+/// straight to their places, with about 128 ticks before the first event and
+/// between two of them: each time of 128 or more takes another byte.
+pub fn within_few_ticks(random: &mut Random, counts: &mut Counts) -> Result<(), String> {
+    let end = random.pick(&[600, 1_022, 1_023, 1_024]);
+    let first = random.pick(&[0, 1, 127, 128]);
+    let late = first + 40 + random.pick(&[1, 126, 127, 128, 129, 300]);
+    let mut list = vec![0, first, first + 40, 64, 0, late, late + 60, 64];
+    for lane in 1..random.between(1_025, 2_048) {
+        let begin = first + random.below(40);
+        let stop = random.between(begin + 1, first + 40);
+        let held = late + random.below(60);
+        match random.below(3) {
+            0 => list.extend([lane, begin, held, random.between(1, 127)]),
+            1 => list.extend([lane, held, held + 1, random.between(1, 127)]),
+            _ => {
+                list.extend([lane, begin, stop, random.between(1, 127)]);
+                list.extend([lane, held, held + 1, random.between(1, 127)]);
+            }
+        }
     }
     laid(random, end, 1, &list, counts)
 }

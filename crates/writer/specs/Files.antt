@@ -56,3 +56,8 @@ countOf file out = cond (leb (length file) (length out)) (length file) 0
 
 abbrev pub outputOf : List ℕ → List ℕ → List ℕ
 outputOf file out = cond (leb (length file) (length out)) (splice out 0 file) out
+
+-- The file is written; or, where the result is 0, the output is as it was and nothing is said of the file.
+pub record Tried (r : ℕ) (file out after : List ℕ) : Type 0 where
+  pub done : 0 < r → (r ≡ countOf file out) × (after ≡ outputOf file out)
+  pub kept : r ≡ 0 → after ≡ out

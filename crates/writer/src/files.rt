@@ -6,6 +6,7 @@ ghost use Rattle.words.specs.Splice.{splice};
 ghost use Rattle.model.specs.Limits.{maxDelta};
 ghost use Rattle.midi.specs.Writing.{headerBytes};
 ghost use Rattle.writer.specs.Files.{FileAsks, PartAsks, Room, fileOf, fileIn, countOf, outputOf};
+use crate::dense;
 use crate::few;
 use crate::many;
 use crate::wide;
@@ -81,7 +82,7 @@ fn put_long_file(s: &[u32], count: usize, delta: u32, beats: u32, out: &mut [u8]
 }
 
 // The file of a shelf's notes, if it fits the output. Returns its length, or 0 if it does not fit. The events of few notes stand in one table,
-// which is less to clear than the tables for many.
+// which is less to clear than the tables for many; those of many notes within few ticks are not put in order at all.
 pub fn put_file(s: &[u32], count: usize, delta: u32, beats: u32, out: &mut [u8]) -> usize
     requires { ⌜ FileAsks (now s) count delta beats ⌝ }
     ensures { λ r. ⌜ (r ≡ countOf (fileOf (now (s .entry)) count delta beats) (now (out .entry))) × (now (out .exit) ≡ outputOf (fileOf (now (s .entry)) count delta beats) (now (out .entry))) ⌝ }
@@ -89,6 +90,12 @@ pub fn put_file(s: &[u32], count: usize, delta: u32, beats: u32, out: &mut [u8])
     if count <= 1024 {
         if beats * delta <= 2097151 {
             return few::put_few(s, count, delta, beats, out);
+        }
+    }
+    if beats * delta <= 1023 {
+        let length = dense::put_dense(s, count, delta, beats, out);
+        if 0 < length {
+            return length;
         }
     }
     put_long_file(s, count, delta, beats, out)
