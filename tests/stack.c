@@ -27,6 +27,7 @@ static const struct Case CASES[] = {
     {"few notes", 4, 3, 700, 0},
     {"few notes, late ones", 2, 2, 2200000, 0},
     {"as many notes as one table holds", 1024, 1, 700, 0},
+    {"many notes within few ticks", 2048, 1, 700, 0},
     {"many notes in few lanes", 88, 400, 700, 0},
     {"many notes in few lanes, tight output", 88, 400, 700, 1},
     {"many notes in many lanes", 2048, 16, 700, 0},

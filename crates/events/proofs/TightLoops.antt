@@ -27,36 +27,29 @@ use Rattle.events.proofs.Sorting.{tick-low, tick-high, last-append, sta
 
 -- ---- times of one group
 
--- behind an event of a bucket of at most 128 ticks, the times of the bucket's events
-bucket-times : {width : ℕ} → 0 < width → width ≤ 128 → (v t : ℕ) (ks : List ℕ) → v * width ≤ t → All (λ k. bucket width k ≡ v) ks → length (windowBytes t ks) ≤ 4 * length ks
+-- one event more, behind a short time
+short-more : (t k : ℕ) (ks : List ℕ) → tickOf k - t < 128 → length (windowBytes (tickOf k) ks) ≤ 4 * length ks → length (windowBytes t (k ∷ ks)) ≤ 4 * length (k ∷ ks)
 unfolding windowBytes
-bucket-times z w v t [] h o = omega arith
-bucket-times {width} z w v t (k ∷ ks) h o =
+short-more t k ks h l =
     let q : List ℕ = quantityBytes (tickOf k - t) in
     omega (
       arith,
-      bucket-times z w v (tickOf k) ks (tick-low width v k (o .0)) (o .1),
-      tick-high width v k z (o .0),
       groups-near (tickOf k - t),
       message-length (eventOf k),
       length-append q (messageBytes (eventOf k)),
       length-append (q ++ messageBytes (eventOf k)) (windowBytes (tickOf k) ks),
     )
 
--- those behind an event before the bucket, by the first of them
+-- behind an event of a bucket of at most 128 ticks, the times of the bucket's events
+bucket-times : {width : ℕ} → 0 < width → width ≤ 128 → (v t : ℕ) (ks : List ℕ) → v * width ≤ t → All (λ k. bucket width k ≡ v) ks → length (windowBytes t ks) ≤ 4 * length ks
+unfolding windowBytes
+bucket-times z w v t [] h o = omega arith
+bucket-times {width} z w v t (k ∷ ks) h o = short-more t k ks (omega (arith, tick-high width v k z (o .0))) (bucket-times z w v (tickOf k) ks (tick-low width v k (o .0)) (o .1))
+
 first-time : {width : ℕ} (t : ℕ) (ks : List ℕ) → OneBucket width ks → width ≤ 128 → tickOf (getD ks 0 0) - t < 128 → length (windowBytes t ks) ≤ 4 * length ks
 unfolding windowBytes
 first-time t [] b w h = omega arith
-first-time {width} t (k ∷ ks) b w h =
-    let q : List ℕ = quantityBytes (tickOf k - t) in
-    omega (
-      arith,
-      bucket-times (b .some) w (b .v) (tickOf k) ks (tick-low width (b .v) k (b .own .0)) (b .own .1),
-      groups-near (tickOf k - t),
-      message-length (eventOf k),
-      length-append q (messageBytes (eventOf k)),
-      length-append (q ++ messageBytes (eventOf k)) (windowBytes (tickOf k) ks),
-    )
+first-time {width} t (k ∷ ks) b w h = short-more t k ks h (bucket-times (b .some) w (b .v) (tickOf k) ks (tick-low width (b .v) k (b .own .0)) (b .own .1))
 
 timed-first : {end t : ℕ} (ks : List ℕ) → Timed end t ks → 0 < length ks → (t ≤ tickOf (getD ks 0 0)) × (tickOf (getD ks 0 0) ≤ end)
 timed-first [] s h = absurd (omega arith)

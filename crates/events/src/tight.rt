@@ -91,6 +91,7 @@ pub fn put_tight(
         }
         from = upto;
         tick = reached.tick;
+        // The buckets behind the last event are empty.
         v = if upto == all { 2047 } else { v + 1 };
     }
     Front {

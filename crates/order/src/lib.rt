@@ -68,18 +68,19 @@ fn run_end(s: &[u32], count: usize, from: usize, lane: usize) -> usize
     i
 }
 
-// Where each lane's events begin and end.
-pub fn runs(s: &[u32], count: usize, n: usize, pos: &mut [u32], ends: &mut [u32])
-    requires { ⌜ Ordered (now s) count × ((j : ℕ) → j < count → laneAt (now s) j < n) × (0 < n) × (n ≤ length (now pos)) × (n ≤ length (now ends)) ⌝ }
-    ensures { λ _. ⌜ Split (now (s .entry)) count (now (pos .exit)) (now (ends .exit)) n ⌝ }
+// Where the events of each lane that has notes begin and end, in the order of the lanes. Returns how many lanes these are.
+pub fn runs(s: &[u32], count: usize, pos: &mut [u32], ends: &mut [u32]) -> usize
+    requires { ⌜ Ordered (now s) count × (2048 ≤ length (now pos)) × (2048 ≤ length (now ends)) ⌝ }
+    ensures { λ r. ⌜ Split (now (s .entry)) count (now (pos .exit)) (now (ends .exit)) r × (r ≤ 2048) ⌝ }
 {
     let mut i: usize = 0;
     let mut l: usize = 0;
-    while l < n {
-        let r = run_end(s, count, i, l);
+    while i < count {
+        let r = run_end(s, count, i, s[4 * i] as usize);
         pos[l] = (2 * i) as u32;
         ends[l] = (2 * r) as u32;
         i = r;
         l += 1;
     }
+    l
 }

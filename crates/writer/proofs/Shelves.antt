@@ -9,7 +9,7 @@ use lib.ListN.{getD}
 use borrow.Author.Tests.{leb-true}
 use Rattle.radix.specs.Sort as S
 use Rattle.order.specs.Events.{laneAt, endAt, events, Follows, Follows.lanes, Follows.ticks, Ordered, length-events}
-use Rattle.order.specs.Runs.{Split, last-lane, split-length}
+use Rattle.order.specs.Runs.{Split, split-length}
 use Rattle.model.specs.Lists.{gather}
 use Rattle.model.specs.Limits.{velocityOk}
 use Rattle.model.specs.Takes.{readNotes}
@@ -22,7 +22,7 @@ use Rattle.midi.proofs.Sorting.{all-in-order}
 use Rattle.session.specs.Reading.{noteAt}
 use Rattle.track.specs.Keys.{keyOf, tickOf, eventOf}
 use Rattle.events.specs.Tracks.{trackLeft, Timed, Timed.over, Timed.next, TrackAsks}
-use Rattle.writer.specs.Files.{FileAsks, LanesBelow, Room}
+use Rattle.writer.specs.Files.{FileAsks, Room}
 use Rattle.writer.proofs.Keys.{each-note, each-pair, events-keys, all-differ, sort-keys}
 
 -- ---- events from their numbers
@@ -84,14 +84,6 @@ least-zero : (ks : List ℕ) → S.Least 0 ks
 least-zero [] = S.Least.none
 least-zero (k ∷ ks) = S.Least.more {x = k} (omega arith) (least-zero ks)
 
--- ---- lanes
-
-pub lanes-none : (s : List ℕ) (count : ℕ) → count ≡ 0 → LanesBelow s count 1
-lanes-none s count e = record { some = omega arith; most = omega arith; each = λ j h. absurd (not-suc-le-zero {n = 0} (omega arith)) }
-
-pub lanes-last : (s : List ℕ) (count : ℕ) → Ordered s count → 0 < count → LanesBelow s count (laneAt s (count - 1) + 1)
-lanes-last s count w h = record { some = omega arith; most = omega (arith, w .each (count - 1) (omega arith) .lane); each = last-lane w }
-
 -- ---- a shelf's notes
 
 module _ {s : List ℕ} {count δ beats : ℕ} (a : FileAsks s count δ beats) where
@@ -150,7 +142,7 @@ module _ {s : List ℕ} {count δ beats : ℕ} (a : FileAsks s count δ beats) w
   timed = timed-from (beats * δ) 0 (S.sort keys) (omega arith) (S.sort-ascending keys) (least-zero (S.sort keys))
       (rw sorted-is (all-keys (λ k. tickOf k ≤ beats * δ) (inOrder (gather eventsOf notes)) (all-in-order (λ e. tickOf (keyOf e) ≤ beats * δ) (gather eventsOf notes) (all-within δ beats notes fair))))
 
-  pub track-asks : {pos ends to t b places : List ℕ} {n : ℕ} → Split s count pos ends n → LanesBelow s count n → Room pos ends to t b places
+  pub track-asks : {pos ends to t b places : List ℕ} {n : ℕ} → Split s count pos ends n → n ≤ 2048 → Room pos ends to t b places
       → TrackAsks s count n pos ends to t b places (beats * δ)
   track-asks w l r =
       record {
@@ -160,8 +152,8 @@ module _ {s : List ℕ} {count δ beats : ℕ} (a : FileAsks s count δ beats) w
         all = split-length w;
         timed = rw (w .all) timed;
         short = omega (arith, end-short);
-        lanes = l .most;
-        room = omega (arith, l .most, r .next);
+        lanes = l;
+        room = omega (arith, r .next);
         here = r .here;
         there = r .there;
         table = r .table;

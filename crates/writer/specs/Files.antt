@@ -6,7 +6,6 @@ use Prim.Native.Nat.{ℕ, _*_, _≤_, _<_}
 use lib.Dec.{leb}
 use lib.ListN.{length}
 use Rattle.words.specs.Splice.{splice}
-use Rattle.order.specs.Events.{laneAt}
 use Rattle.model.specs.Limits.{maxBeats, maxDelta, maxWords}
 use Rattle.model.specs.Soundness.{notesOk, soundShelf}
 use Rattle.model.specs.Takes.{word, readNotes, notesIn}
@@ -28,12 +27,6 @@ pub record PartAsks (h : Header) (ws : List ℕ) : Type 0 where
   pub small : h .words ≤ maxWords
   pub whole : length ws ≡ h .words
   pub sound : soundShelf h ws ≡ true
-
--- All the notes' lanes are below n.
-pub record LanesBelow (s : List ℕ) (count n : ℕ) : Type 0 where
-  pub some : 0 < n
-  pub most : n ≤ 2048
-  pub each : (j : ℕ) → j < count → laneAt s j < n
 
 -- Room for the places of the lanes or the buckets, and for the events of a window or a bucket.
 pub record Room (pos ends to a b places : List ℕ) : Type 0 where
