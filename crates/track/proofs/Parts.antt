@@ -32,6 +32,7 @@ use Rattle.midi.specs.Events.{
 use Rattle.midi.proofs.Branches.{same-test}
 use lib.Bits.{bitOr, or-add-and, and-le-l, and-le-r}
 use Rattle.midi.proofs.Legal.{InRange}
+use Rattle.track.specs.Notes.{Plain, Running}
 use Rattle.track.specs.Reading.{laneOf, messageOf, secondAt, overAt, endAt}
 use Rattle.track.specs.declared.cursor.Message.the-variants.{Plays}
 use Rattle.track.proofs.ReadGroups.{group-last}
@@ -230,40 +231,49 @@ module _ (s : List ℕ) (p : Place) where
   unfolding eventAt
   event-behind d q e = rw (e, eventAt)
 
--- A note of four bytes: a time of one group, a status of 8n or 9n, key and velocity.
-module _ (s : List ℕ) (p : Place) (room : p .at + 4 ≤ length s) (short : getD s (p .at) 0 < 128) (note : getD s (p .at + 1) 0 / 32 ≡ 4)
-    (low : getD s (p .at + 2) 0 < 128) (soft : getD s (p .at + 3) 0 < 128) where
+-- the time of one group
+one-time : (s : List ℕ) (at : ℕ) → at < length s → getD s at 0 < 128 → quantityAt s at ≡ quantity (getD s at 0) (at + 1)
+one-time s at h short = let z : 0 * 128 + getD s at 0 ≡ getD s at 0 = omega arith in rw z at (group-last 4 s at 0 (omega arith) h short)
+
+-- the two data bytes of a note
+note-bytes : (s : List ℕ) (tick status q : ℕ) → q + 2 ≤ length s → status / 32 ≡ 4 → getD s q 0 < 128 → getD s (q + 1) 0 < 128 → (m : Message) → m ≡ channelMessage status (getD s q 0) (getD s (q + 1) 0)
+    → event (place (q + 2) tick status) m ≡ channelAt s tick status q
+note-bytes s tick status q room note low soft m e =
+    let z : q + 1 + 1 ≡ q + 2 = omega arith in
+    (rw z at (second-there s tick status (getD s q 0) (q + 1) (data-low s (q + 1) (omega arith) soft) m e))
+    ∙ channel-two s tick status q (data-low s q (omega arith) low) (λ k. omega arith)
+
+-- a note of four bytes, and one of three
+module _ (s : List ℕ) (p : Place) where
   abbrev at : ℕ
   at = p .at
-
-  abbrev status : ℕ
-  status = getD s (at + 1) 0
 
   abbrev tick : ℕ
   tick = p .tick + getD s at 0
 
-  third : at + 2 + 1 ≡ at + 3
-  third = omega arith
+  pub event-plain : Plain s (p .at) → (m : Message) → m ≡ channelMessage (getD s (p .at + 1) 0) (getD s (p .at + 2) 0) (getD s (p .at + 3) 0)
+      → event (place (p .at + 4) (p .tick + getD s (p .at) 0) (getD s (p .at + 1) 0)) m ≡ eventAt s p
+  event-plain w m e =
+      let x : at + 2 + 1 ≡ at + 3 = omega arith in
+      let y : at + 2 + 2 ≡ at + 4 = omega arith in
+      let z : at + 1 + 1 ≡ at + 2 = omega arith in
+      let f : m ≡ channelMessage (getD s (at + 1) 0) (getD s (at + 2) 0) (getD s (at + 2 + 1) 0) = rw x e in
+      let v : getD s (at + 2 + 1) 0 < 128 = rw x (w .velocity) in
+      (rw y at (note-bytes s tick (getD s (at + 1) 0) (at + 2) (omega (arith, w .inside)) (w .status) (w .key) v m f))
+      ∙ own-channel s tick (getD s (at + 1) 0) (at + 2) (omega (arith, w .status))
+      ∙ (rw z at (behind-own s tick (p .running) (at + 1) (omega (arith, w .inside)) (omega (arith, w .status))))
+      ∙ event-behind s p (getD s at 0) (at + 1) (one-time s at (omega (arith, w .inside)) (w .time))
 
-  second : at + 1 + 1 ≡ at + 2
-  second = omega arith
-
-  time : quantityAt s at ≡ quantity (getD s at 0) (at + 1)
-  time = let z : 0 * 128 + getD s at 0 ≡ getD s at 0 = omega arith in rw z at (group-last 4 s at 0 (omega arith) (omega arith) short)
-
-  data-bytes : secondAt s tick status (getD s (at + 2) 0) (at + 3) ≡ channelAt s tick status (at + 2)
-  data-bytes = rw third at (channel-two s tick status (at + 2) (data-low s (at + 2) (omega arith) low) (λ e. omega arith))
-
-  own : channelAt s tick status (at + 2) ≡ behindTime s tick (p .running) (at + 1)
-  own = own-channel s tick status (at + 2) (omega arith) ∙ (rw second at (behind-own s tick (p .running) (at + 1) (omega arith) (omega arith)))
-
-  fourth : at + 3 + 1 ≡ at + 4
-  fourth = omega arith
-
-  pub event-note : (m : Message) → m ≡ channelMessage status (getD s (at + 2) 0) (getD s (at + 3) 0) → event (place (at + 4) tick status) m ≡ eventAt s p
-  event-note m e =
-      (rw fourth at (second-there s tick status (getD s (at + 2) 0) (at + 3) (data-low s (at + 3) (omega arith) soft) m e))
-      ∙ data-bytes ∙ own ∙ event-behind s p (getD s at 0) (at + 1) time
+  pub event-running : Running s (p .at) (p .running) → (m : Message) → m ≡ channelMessage (p .running) (getD s (p .at + 1) 0) (getD s (p .at + 2) 0)
+      → event (place (p .at + 3) (p .tick + getD s (p .at) 0) (p .running)) m ≡ eventAt s p
+  event-running w m e =
+      let x : at + 1 + 1 ≡ at + 2 = omega arith in
+      let y : at + 1 + 2 ≡ at + 3 = omega arith in
+      let f : m ≡ channelMessage (p .running) (getD s (at + 1) 0) (getD s (at + 1 + 1) 0) = rw x e in
+      let v : getD s (at + 1 + 1) 0 < 128 = rw x (w .velocity) in
+      (rw y at (note-bytes s tick (p .running) (at + 1) (omega (arith, w .inside)) (w .status) (w .key) v m f))
+      ∙ behind-running s tick (p .running) (at + 1) (omega (arith, w .inside)) (w .key) (λ k. omega (arith, w .status))
+      ∙ event-behind s p (getD s at 0) (at + 1) (one-time s at (omega (arith, w .inside)) (w .time))
 
 -- what 8n and 9n say, by the velocity v of the note that they start
 module _ (status key velocity v : ℕ) (note : status / 32 ≡ 4) (low : key < 128) (e : v ≡ cond (ltb status 144) 0 velocity) where

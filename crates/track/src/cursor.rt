@@ -1,11 +1,12 @@
 // A place in a track, and the event that stands there (question 12).
 ghost use mathlib.Core.Path.{_≡_};
-ghost use mathlib.Core.Bool.{cond};
+ghost use mathlib.Core.Bool.{true, cond};
 ghost use Prim.Native.Nat.{_+_, _*_, _/_, _≤_, _<_};
 ghost use lib.Dec.{ltb};
 ghost use lib.ListN.{length};
 ghost use Rattle.model.specs.Limits.{maxBeats, maxDelta};
 ghost use Rattle.midi.specs.Events.{place, channelMessage, channelAt, metaAt, sysexAt, ownStatus, behindTime, eventAt};
+ghost use Rattle.track.specs.Notes.{Plain, Running};
 ghost use Rattle.track.specs.Reading.{messageOf, placeOf, eventOf, secondAt, overAt, endAt};
 use crate::quantities;
 use crate::quantities::Quantity;
@@ -215,14 +216,48 @@ fn behind_time(s: &[u8], tick: u32, running: u8, q: usize) -> Event
     channel_at(s, tick, running, q)
 }
 
-// The event at a place, of any kind: its time, counted from the event before it, then status and data.
-fn any_event(s: &[u8], at: usize, tick: u32, running: u8) -> Event
+// The event at a place, of any kind: its time, counted from the event before it, then status and data. A loop over events reads the notes of
+// four and three bytes by itself, with functions so small that they are compiled into it, and asks this one for all others.
+pub fn any_event(s: &[u8], at: usize, tick: u32, running: u8) -> Event
     requires { ⌜ tick ≤ maxBeats * maxDelta ⌝ }
     ensures { λ r. ⌜ eventOf r ≡ eventAt (now (s .entry)) (place at tick running) ⌝ }
 {
     match quantities::quantity_at(s, at) {
         Quantity::Nothing => Event::Illegal,
         Quantity::Number(d, q) => behind_time(s, tick + d, running, q),
+    }
+}
+
+impl Message {
+    // The same message, copied field by field.
+    fn again(self) -> Message
+        ensures { λ r. ⌜ r ≡ self ⌝ }
+    {
+        match self {
+            Message::Plays {
+                channel,
+                key,
+                velocity,
+            } => Message::Plays {
+                channel: channel,
+                key: key,
+                velocity: velocity,
+            },
+            Message::Passed => Message::Passed,
+        }
+    }
+}
+
+impl Event {
+    // The same event, copied field by field: so an answer that comes through memory does not hold those that do not there.
+    pub fn again(self) -> Event
+        ensures { λ r. ⌜ r ≡ self ⌝ }
+    {
+        match self {
+            Event::Illegal => Event::Illegal,
+            Event::Legal(next, message) => Event::Legal(next.again(), message.again()),
+            Event::Finished(tick) => Event::Finished(tick),
+        }
     }
 }
 
@@ -249,33 +284,64 @@ impl Cursor {
         }
     }
 
-    // The event at this place. Most are notes of four bytes: a time of one group, 8n or 9n, key and velocity. These are read here, in few
-    // steps, so that this function is compiled into the loops over events.
-    pub fn event(self, s: &[u8]) -> Event
-        requires { ⌜ (self .tick ≤ maxBeats * maxDelta) × (self .at ≤ length (now s)) ⌝ }
+    // Does a note of four bytes stand here: a time of one group, 8n or 9n, key and velocity? Most events of a file with a status for each are such.
+    pub fn plain(self, s: &[u8]) -> bool
+        requires { ⌜ self .at ≤ length (now s) ⌝ }
+        ensures { λ r. ⌜ (r ≡ true → Plain (now (s .entry)) (self .at)) ⌝ }
+    {
+        let at = self.at;
+        if s.len() < at + 4 {
+            return false;
+        }
+        if s[at + 1] / 32 != 4 {
+            return false;
+        }
+        // None of the three is 128 or more where all their bits together are less.
+        (s[at] | s[at + 2] | s[at + 3]) < 128
+    }
+
+    // The event of those bytes.
+    pub fn plain_event(self, s: &[u8]) -> Event
+        requires { ⌜ (self .tick ≤ maxBeats * maxDelta) × Plain (now s) (self .at) ⌝ }
         ensures { λ r. ⌜ eventOf r ≡ eventAt (now (s .entry)) (placeOf self) ⌝ }
     {
         let at = self.at;
-        let tick = self.tick;
-        let running = self.running;
-        if s.len() < at + 4 {
-            return any_event(s, at, tick, running);
-        }
-        let time = s[at];
         let status = s[at + 1];
-        let key = s[at + 2];
-        let velocity = s[at + 3];
-        // None of the three is 128 or more where all their bits together are less.
-        if (time | key | velocity) < 128 {
-            if status / 32 == 4 {
-                let next = Cursor {
-                    at: at + 4,
-                    tick: tick + time as u32,
-                    running: status,
-                };
-                return Event::Legal(next, note_message(status, key, velocity));
-            }
+        let next = Cursor {
+            at: at + 4,
+            tick: self.tick + s[at] as u32,
+            running: status,
+        };
+        Event::Legal(next, note_message(status, s[at + 2], s[at + 3]))
+    }
+
+    // Does a note of three bytes stand here: a time of one group, key and velocity, with 8n or 9n in force?
+    pub fn runs(self, s: &[u8]) -> bool
+        requires { ⌜ self .at ≤ length (now s) ⌝ }
+        ensures { λ r. ⌜ (r ≡ true → Running (now (s .entry)) (self .at) (self .running)) ⌝ }
+    {
+        let at = self.at;
+        if s.len() < at + 3 {
+            return false;
         }
-        any_event(s, at, tick, running)
+        if self.running / 32 != 4 {
+            return false;
+        }
+        (s[at] | s[at + 1] | s[at + 2]) < 128
+    }
+
+    // The event of those bytes.
+    pub fn running_event(self, s: &[u8]) -> Event
+        requires { ⌜ (self .tick ≤ maxBeats * maxDelta) × Running (now s) (self .at) (self .running) ⌝ }
+        ensures { λ r. ⌜ eventOf r ≡ eventAt (now (s .entry)) (placeOf self) ⌝ }
+    {
+        let at = self.at;
+        let status = self.running;
+        let next = Cursor {
+            at: at + 3,
+            tick: self.tick + s[at] as u32,
+            running: status,
+        };
+        Event::Legal(next, note_message(status, s[at + 1], s[at + 2]))
     }
 }
