@@ -1,5 +1,4 @@
-// The sounding table of 16 channels by 128 keys: a start tick and a velocity for each, velocity 0 in a silent lane (question 14). The first
-// pass has a third table beside it: the line sides before each start.
+// The sounding table of 16 channels by 128 keys: a start tick and a velocity for each, velocity 0 in a silent lane (question 14).
 ghost use mathlib.Core.Path.{_≡_};
 ghost use Prim.Native.Nat.{_+_, _*_, _<_};
 ghost use Rattle.midi.specs.Lanes.{laneAt, putLane};
@@ -40,22 +39,6 @@ pub fn put_lane(
 {
     starts[channel as usize][key as usize] = start;
     velocities[channel as usize][key as usize] = velocity;
-}
-
-// The line sides that are kept for a lane.
-pub fn side_of(sides: &[[u32; 128]; 16], channel: u32, key: u32) -> u32
-    requires { ⌜ (channel < 16) × (key < 128) ⌝ }
-    ensures { λ r. ⌜ r ≡ laneAt (now (sides .entry)) (128 * channel + key) ⌝ }
-{
-    sides[channel as usize][key as usize]
-}
-
-// Keeps line sides for a lane.
-pub fn put_side(sides: &mut [[u32; 128]; 16], channel: u32, key: u32, side: u32)
-    requires { ⌜ (channel < 16) × (key < 128) ⌝ }
-    ensures { λ _. ⌜ now (sides .exit) ≡ putLane (now (sides .entry)) (128 * channel + key) side ⌝ }
-{
-    sides[channel as usize][key as usize] = side;
 }
 
 // Does no lane of a channel sound? All its velocities joined by "or", so that many are looked at in one step.
