@@ -55,7 +55,7 @@ fn pair_count(h: Header, beats: u32, c: Cell, d: Cell) -> SeamCount
 }
 
 // The cells of a lane in front of the last `left` cells up to `end`; `rest` are left behind them.
-#[derive(Drop)]
+#[derive(Clone, Copy)]
 pub struct CellRun {
     pub lane: u32,
     pub end: usize,

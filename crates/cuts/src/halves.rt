@@ -16,7 +16,7 @@ use model::{Cell, Header, Note};
 use session::{clear, header, notes, rules, shelf};
 
 // One half of a take that is split at a beat.
-#[derive(Drop)]
+#[derive(Clone, Copy)]
 pub struct Half {
     // Is it the right half, the beats from that beat on? Else it is the left half, the beats before it.
     pub right: bool,
@@ -67,7 +67,7 @@ pub fn right_half(delta: u32, beat: u32, beats: u32) -> Half
 }
 
 // The notes of a shelf, how many and the place behind them, and its cells, how many and the place behind them.
-#[derive(Drop)]
+#[derive(Clone, Copy)]
 pub struct Contents {
     pub notes: usize,
     pub middle: usize,
@@ -247,7 +247,7 @@ fn put_parts(
 }
 
 // The places behind what is written of each half.
-#[derive(Drop)]
+#[derive(Clone, Copy)]
 pub struct Ends {
     pub left: usize,
     pub right: usize,

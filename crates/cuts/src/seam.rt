@@ -161,7 +161,7 @@ pub fn from_on(s: &[u32], h: Header, d: Cell, end: usize, left: usize) -> Note
 }
 
 // What happens at the seam of a lane.
-#[derive(Drop)]
+#[derive(Clone, Copy)]
 pub struct Seam {
     // Does a note go over the line?
     pub over: bool,

@@ -14,7 +14,7 @@ const MAX_ANSWER: usize = 16387;
 
 // Where reading stands: the place in the block, the characters kept of the line in hand, the length of the session and the place behind
 // the last answer.
-#[derive(Drop)]
+#[derive(Clone, Copy)]
 pub struct Progress {
     pub at: usize,
     pub kept: usize,

@@ -6,7 +6,7 @@ ghost use Rattle.model.specs.Session.{header_words};
 ghost use Rattle.model.specs.Answers.{answer_of, header_asked};
 
 // A session's header: ticks in a beat, the shortest piece kept, the number of shelves, the words in a shelf.
-#[derive(Drop)]
+#[derive(Clone, Copy)]
 pub struct Header {
     pub delta: u32,
     pub epsilon: u32,
@@ -49,7 +49,7 @@ impl Header {
     // definitions; those of the ranges are tied by the first.
     pub fn new(delta: u32, epsilon: u32, shelves: u32, words: u32, length: usize) -> HeaderAnswer
         ensures asked { answer_of result ≡ header_asked (record { delta = delta; epsilon = epsilon; shelves = shelves; words = words }) length }
-        ensures* limits { do ⌜ ((← (⟦Header::BEATS⟧).entry) ≡ max_beats) × ((← (⟦Header::LANES⟧).entry) ≡ lane_count) × ((← (⟦Header::SHELVES⟧).entry) ≡ max_shelves) × ((← (⟦Header::WORDS⟧).entry) ≡ header_words) ⌝ }
+        ensures limits { (Header.BEATS ≡ max_beats) × (Header.LANES ≡ lane_count) × (Header.SHELVES ≡ max_shelves) × (Header.WORDS ≡ header_words) }
     {
         if !ticks_ok(delta, epsilon) {
             return HeaderAnswer::Refused;
@@ -102,7 +102,7 @@ fn shelves_ok(shelves: u32, words: u32) -> bool
 }
 
 // A note: its lane (channel × 128 + key), start and end in ticks, velocity.
-#[derive(Drop)]
+#[derive(Clone, Copy)]
 pub struct Note {
     pub lane: u32,
     pub start: u32,
@@ -112,7 +112,7 @@ pub struct Note {
 
 // A cell: what a piece that touches a line of its beat remembers there. Side 0 is the beat's opening line, 1 its closing line;
 // before and after are the ticks of the whole note on either side of the line.
-#[derive(Drop)]
+#[derive(Clone, Copy)]
 pub struct Cell {
     pub lane: u32,
     pub beat: u32,

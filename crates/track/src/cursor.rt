@@ -12,7 +12,7 @@ use crate::quantities::Quantity;
 const END: u8 = 47;
 
 // Where reading stands: the position in the track, the tick of the last event, the running status in force (0: none).
-#[derive(Drop)]
+#[derive(Clone, Copy)]
 pub struct Cursor {
     pub at: usize,
     pub tick: u32,
