@@ -1,4 +1,6 @@
 // The calls on shelves, exported to C: open, lay, split and join.
+#![tactic(auto)]
+
 pub mod cells;
 pub mod joining;
 pub mod laying;

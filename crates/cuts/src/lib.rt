@@ -1,4 +1,6 @@
 // The halves of a take, and two takes joined, written into a shelf straight from their own notes and cells.
+#![tactic(auto)]
+
 pub mod counting;
 pub mod halves;
 pub mod joined;

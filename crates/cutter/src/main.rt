@@ -1,4 +1,6 @@
 // The cutter: answers the frames of standard input.
+#![tactic(auto)]
+
 fn main() {
     frames::program::run();
 }

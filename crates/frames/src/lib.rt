@@ -1,4 +1,6 @@
 // Lines of hexadecimal digits to calls, and their answers as lines; the program over standard input.
+#![tactic(auto)]
+
 pub mod answers;
 pub mod calls;
 pub mod digits;

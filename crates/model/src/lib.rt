@@ -1,5 +1,7 @@
 // The values of the paper: a session's header, a note and a cell, with the meaning of the calls in specs/.
 // δ, ε, K and W of the paper are the fields delta, epsilon, shelves and words.
+#![tactic(auto)]
+
 ghost use Rattle.std.specs.Prelude.{◌≡◌, ◌&&◌, leb};
 ghost use Rattle.model.specs.Limits.{max_beats, lane_count, max_shelves, max_delta, min_words, max_words};
 ghost use Rattle.model.specs.Session.{header_words};

@@ -1,5 +1,7 @@
 // The events of a take's notes in the order of the file: by tick, ends before starts, then by lane. An event is one number with that order.
 // Each lane's events are in order already, so that those of a window of time are the first ones of each lane.
+#![tactic(auto)]
+
 ghost use Rattle.std.specs.Prelude.{◌≡◌, ℕ, ◌+◌, ◌*◌, ◌≤◌, ◌<◌, length, get_or, take};
 ghost use Rattle.order.specs.Events.{lane_at, event, velocity_of, events, Ordered};
 ghost use Rattle.order.specs.Runs.{Run, Split};

@@ -1,5 +1,7 @@
 // A session as a list of words: its header and the place of a shelf, notes and cells, a note list, the frame of a shelf, and
 // question 4 with the rules for cells.
+#![tactic(auto)]
+
 pub mod beats;
 pub mod cells;
 pub mod clear;

@@ -1,4 +1,6 @@
 // Writing into a list of words: fill with zeros, put a few words, copy a run.
+#![tactic(auto)]
+
 ghost use Rattle.std.specs.Prelude.{◌≡◌, [], ◌∷◌, ◌+◌, ◌-◌, ◌≤◌, length, take, drop, replicate};
 ghost use Rattle.words.specs.Splice.{splice};
 

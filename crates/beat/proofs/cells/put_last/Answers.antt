@@ -1,0 +1,19 @@
+-- `beat::cells::put_last` meets its contract.
+use Rattle.beat.proofs.Makes.{made_late, touched, made_touched}
+use lib.ListN.{length}
+use mathlib.Core.Path.{ap}
+use native.Mathlib.Omega.{arith}
+use borrow.Author.Rules.{rules}
+use Rattle.beat.proofs.cells.put_last.Goals as goal
+
+pub returns-then-n-line : goal.returns-then-n-line
+returns-then-n-line c = made_late _ _ _ _ (omega arith) _ _
+
+pub put_cell-requires : goal.put_cell-requires
+put_cell-requires c = omega (arith, c.requires, ap length (touched c.args.n c.args.beat 1 c.args.line (omega arith) (omega arith)))
+
+pub overflow_add-result : goal.overflow_add-result
+overflow_add-result c = omega (arith, c.requires, ap length (touched c.args.n c.args.beat 1 c.args.line (omega arith) (omega arith)))
+
+pub returns : goal.returns
+returns c = made_touched _ _ _ _ (omega arith) (omega arith) c.put_cell.ensures

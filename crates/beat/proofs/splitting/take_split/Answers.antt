@@ -1,0 +1,21 @@
+-- `beat::splitting::take_split` meets its contract.
+use Rattle.model.specs.Answers.{answer_of}
+use mathlib.Core.Path.{sym, ap, ◌∙◌}
+use Rattle.beat.proofs.Splits.{no_header, header_ok_lem, refused, split_asks, done}
+use borrow.Author.Rules.{rules}
+use Rattle.beat.proofs.splitting.take_split.Goals as goal
+
+pub asked-no-requires : goal.asked-no-requires
+asked-no-requires c = header_ok_lem _ (sym (ap answer_of c.in-Valid.is) ∙ c.read-answer.ensures)
+
+pub returns-then-no-ne0 : goal.returns-then-no-ne0
+returns-then-no-ne0 c = refused _ _ _ _ _ (sym (ap answer_of c.in-Valid.is) ∙ c.read-answer.ensures) c.asked-no.ensures c.if-no-ne0.true
+
+pub put_halves-requires : goal.put_halves-requires
+put_halves-requires c = split_asks _ _ _ _ _ (sym (ap answer_of c.in-Valid.is) ∙ c.read-answer.ensures) c.asked-no.ensures c.if-no-ne0.false
+
+pub returns-else-no-ne0 : goal.returns-else-no-ne0
+returns-else-no-ne0 c = done _ _ _ _ _ (sym (ap answer_of c.in-Valid.is) ∙ c.read-answer.ensures) c.asked-no.ensures c.if-no-ne0.false c.put_halves.ensures
+
+pub returns-in-Refused : goal.returns-in-Refused
+returns-in-Refused c = no_header _ _ _ _ _ (sym (ap answer_of c.in-Refused.is) ∙ c.read-answer.ensures)

@@ -1,0 +1,12 @@
+-- `cuts::counting::count_seams` meets its contract. The measure is how many cells are left of both takes.
+use native.Mathlib.Omega.{arith}
+use Prim.Native.Nat.{◌+◌}
+use Rattle.cuts.proofs.JoinCounts.{Counting, counting_start, left_asks, over_asks, seams_counted, fewer_cells, pairs-room, alone-room, counting_lane}
+use borrow.Author.Rules.{rules}
+use Rattle.cuts.proofs.counting.count_seams.Given as goal
+
+abbrev pub invariant-loop-left : goal.invariant-loop-left
+invariant-loop-left l = Counting l.s l.h l.beats l.first l.second l.left l.over l.pairs l.alone
+
+abbrev pub decreases-loop-left : goal.decreases-loop-left
+decreases-loop-left l = l.left + l.over

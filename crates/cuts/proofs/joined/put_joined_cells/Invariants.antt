@@ -1,0 +1,11 @@
+-- `cuts::joined::put_joined_cells` meets its contract. The measure is how many of the first's cells are left.
+use native.Mathlib.Omega.{arith}
+use Rattle.cuts.proofs.JoinCells.{Joining, joining_start, first_place, first-room, before_asks, some_fewer, at_room, joining_cell, last_asks, joined-room, joined-done}
+use borrow.Author.Rules.{rules}
+use Rattle.cuts.proofs.joined.put_joined_cells.Given as goal
+
+abbrev pub invariant-loop-left : goal.invariant-loop-left
+invariant-loop-left l = Joining l.initial.s l.s l.to l.beats l.first l.second l.at l.left l.rest
+
+abbrev pub decreases-loop-left : goal.decreases-loop-left
+decreases-loop-left l = l.left

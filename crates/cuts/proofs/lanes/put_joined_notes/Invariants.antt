@@ -1,0 +1,11 @@
+-- `cuts::lanes::put_joined_notes` meets its contract. The measure is how many lanes are left.
+use native.Mathlib.Omega.{arith}
+use Prim.Native.Nat.{◌-◌}
+use Rattle.cuts.proofs.LaneWalk.{Walking, line_word, walk_start, both_in, walk_next, walk_later, walk-done, lane_asks, walk-lane}
+use Rattle.cuts.proofs.lanes.put_joined_notes.Given as goal
+
+abbrev pub invariant-loop-lane : goal.invariant-loop-lane
+invariant-loop-lane l = Walking l.initial.s l.s l.initial.rests.at l.h l.beats l.initial.rests.first l.initial.rests.second l.rests l.lane
+
+abbrev pub decreases-loop-lane : goal.decreases-loop-lane
+decreases-loop-lane l = 2048 - l.lane

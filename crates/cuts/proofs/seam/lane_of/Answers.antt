@@ -1,0 +1,7 @@
+-- `cuts::seam::lane_of` meets its contract.
+use Rattle.cuts.proofs.JoinSeam.{lane_is}
+use borrow.Author.Rules.{rules}
+use Rattle.cuts.proofs.seam.lane_of.Goals as goal
+
+pub returns : goal.returns
+returns c = lane_is _ _ c.note_lane-a.ensures c.cell_lane-b.ensures c.lesser.ensures

@@ -1,0 +1,7 @@
+-- `cuts::seam::least_lane` meets its contract.
+use Rattle.cuts.proofs.JoinSeam.{least_is}
+use borrow.Author.Rules.{rules}
+use Rattle.cuts.proofs.seam.least_lane.Goals as goal
+
+pub returns : goal.returns
+returns c = least_is _ _ _ c.lane_of-a.ensures c.lane_of-b.ensures c.lesser.ensures

@@ -1,0 +1,13 @@
+-- `events::emitting::put_buckets` meets its contract.
+use mathlib.Core.Path.{◌≡◌, refl}
+use native.Mathlib.Omega.{arith}
+use lib.ListN.{length, get_or}
+use Rattle.events.proofs.BucketLoops.{Emitting, emitting_start, emitting_at, emitting_bucket, emitting_next, emitting_over}
+use borrow.Author.Rules.{rules}
+use Rattle.events.proofs.emitting.put_buckets.Given as goal
+
+abbrev pub invariant-loop-v : goal.invariant-loop-v
+invariant-loop-v l = Emitting l.width l.first (get_or l.starts l.first 0) (get_or l.ticks l.first 0) l.ends l.initial.out l.v l.out × (length l.a ≡ length l.initial.a)
+
+abbrev pub decreases-loop-v : goal.decreases-loop-v
+decreases-loop-v l = l.v

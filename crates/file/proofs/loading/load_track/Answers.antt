@@ -1,0 +1,31 @@
+-- `file::loading::load_track` meets its contract.
+use Rattle.file.proofs.Loads.{times, room_asks, track_refused, track_full, track-room, track_asks, track-done}
+use Rattle.reader.specs.Counting.{counted_of}
+use mathlib.Core.Path.{refl, sym, ap, ◌∙◌}
+use native.Mathlib.Omega.{arith}
+use borrow.Author.Rules.{rules}
+use Rattle.file.proofs.loading.load_track.Goals as goal
+
+pub count_track-requires : goal.count_track-requires
+count_track-requires c = (times c.requires, refl)
+
+pub fits-requires : goal.fits-requires
+fits-requires c = room_asks c.requires
+
+pub returns-then-not-fits : goal.returns-then-not-fits
+returns-then-not-fits c = track_full c.requires _ (sym (ap counted_of c.in-Recording.is) ∙ c.count_track.ensures.0) c.fits.ensures c.if-not-fits.true-raw
+
+pub overflow_cast-notes : goal.overflow_cast-notes
+overflow_cast-notes c = omega (arith, track-room c.requires _ (sym (ap counted_of c.in-Recording.is) ∙ c.count_track.ensures.0) c.fits.ensures c.if-not-fits.false-raw, room_asks c.requires)
+
+pub overflow_cast-cells : goal.overflow_cast-cells
+overflow_cast-cells c = omega (arith, track-room c.requires _ (sym (ap counted_of c.in-Recording.is) ∙ c.count_track.ensures.0) c.fits.ensures c.if-not-fits.false-raw, room_asks c.requires)
+
+pub put_recording-requires : goal.put_recording-requires
+put_recording-requires c = track_asks c.requires _ (sym (ap counted_of c.in-Recording.is) ∙ c.count_track.ensures.0) c.fits.ensures c.if-not-fits.false-raw c.count_track.ensures.1
+
+pub returns-else-not-fits : goal.returns-else-not-fits
+returns-else-not-fits c = track-done c.requires _ (sym (ap counted_of c.in-Recording.is) ∙ c.count_track.ensures.0) c.fits.ensures c.if-not-fits.false-raw c.put_recording.ensures
+
+pub returns-in-Refused : goal.returns-in-Refused
+returns-in-Refused c = track_refused c.requires _ _ (sym (ap counted_of c.in-Refused.is) ∙ c.count_track.ensures.0)

@@ -1,0 +1,61 @@
+-- `file::writing::take_write` meets its contract.
+use Rattle.file.proofs.Writes.{entered_range, entered_below, part_asks, part_sound, part_wrote, write_refused, write_unsound, write_short, write_full, write_done}
+use Rattle.session.proofs.Sources.{place_asks, inside_session, sound_asks, sound_is}
+use Rattle.session.proofs.Entries.{granted_means}
+use Rattle.session.specs.Entering.{entry_of}
+use native.Mathlib.Omega.{arith}
+use mathlib.Core.Bool.{not}
+use mathlib.Core.Path.{sym, ap, ◌∙◌}
+use borrow.Author.Rules.{rules}
+use Rattle.file.proofs.writing.take_write.Goals as goal
+
+pub shelf_at-at-requires : goal.shelf_at-at-requires
+shelf_at-at-requires c = let e = (granted_means _ _ _ (sym (ap entry_of c.in-Granted.is) ∙ c.enter-entry.ensures)) in place_asks (entered_range e) (entered_below e)
+
+pub overflow_add-end : goal.overflow_add-end
+overflow_add-end c = let e = (granted_means _ _ _ (sym (ap entry_of c.in-Granted.is) ∙ c.enter-entry.ensures)) in omega (arith, inside_session (entered_range e) (entered_below e) c.shelf_at-at.ensures)
+
+pub offset_bounds-session-at : goal.offset_bounds-session-at
+offset_bounds-session-at c = let e = (granted_means _ _ _ (sym (ap entry_of c.in-Granted.is) ∙ c.enter-entry.ensures)) in omega (arith, inside_session (entered_range e) (entered_below e) c.shelf_at-at.ensures)
+
+pub slice_bounds-sound-end : goal.slice_bounds-sound-end
+slice_bounds-sound-end c = let e = (granted_means _ _ _ (sym (ap entry_of c.in-Granted.is) ∙ c.enter-entry.ensures)) in omega (arith, inside_session (entered_range e) (entered_below e) c.shelf_at-at.ensures)
+
+pub sound-requires : goal.sound-requires
+sound-requires c = let e = (granted_means _ _ _ (sym (ap entry_of c.in-Granted.is) ∙ c.enter-entry.ensures)) in sound_asks _ _ _ (entered_range e) (entered_below e) c.shelf_at-at.ensures
+
+pub returns-then-sound : goal.returns-then-sound
+returns-then-sound c = let e = (granted_means _ _ _ (sym (ap entry_of c.in-Granted.is) ∙ c.enter-entry.ensures)) in write_short _ _ _ e c.args.output.now (sound_is _ _ _ (entered_range e) (entered_below e) c.shelf_at-at.ensures c.sound.ensures) c.if-sound.true c.if-output-lt22.true
+
+pub returns-then-output-lt22 : goal.returns-then-output-lt22
+returns-then-output-lt22 c = let e = (granted_means _ _ _ (sym (ap entry_of c.in-Granted.is) ∙ c.enter-entry.ensures)) in write_unsound _ _ _ e c.args.output.now (sound_is _ _ _ (entered_range e) (entered_below e) c.shelf_at-at.ensures c.sound.ensures) (ap not c.if-sound.false)
+
+pub offset_bounds-session-at-in-Granted : goal.offset_bounds-session-at-in-Granted
+offset_bounds-session-at-in-Granted c = let e = (granted_means _ _ _ (sym (ap entry_of c.in-Granted.is) ∙ c.enter-entry.ensures)) in omega (arith, inside_session (entered_range e) (entered_below e) c.shelf_at-at.ensures)
+
+pub slice_bounds-sound-end-in-Granted : goal.slice_bounds-sound-end-in-Granted
+slice_bounds-sound-end-in-Granted c = let e = (granted_means _ _ _ (sym (ap entry_of c.in-Granted.is) ∙ c.enter-entry.ensures)) in omega (arith, inside_session (entered_range e) (entered_below e) c.shelf_at-at.ensures)
+
+pub sound-requires-in-Granted : goal.sound-requires-in-Granted
+sound-requires-in-Granted c = let e = (granted_means _ _ _ (sym (ap entry_of c.in-Granted.is) ∙ c.enter-entry.ensures)) in sound_asks _ _ _ (entered_range e) (entered_below e) c.shelf_at-at.ensures
+
+pub returns-then-not-sound : goal.returns-then-not-sound
+returns-then-not-sound c = let e = (granted_means _ _ _ (sym (ap entry_of c.in-Granted.is) ∙ c.enter-entry.ensures)) in write_unsound _ _ _ e c.args.output.now (sound_is _ _ _ (entered_range e) (entered_below e) c.shelf_at-at.ensures c.sound-in-Granted.ensures) c.if-not-sound.true-raw
+
+pub offset_bounds-session-at-in-Granted-2 : goal.offset_bounds-session-at-in-Granted-2
+offset_bounds-session-at-in-Granted-2 c = let e = (granted_means _ _ _ (sym (ap entry_of c.in-Granted.is) ∙ c.enter-entry.ensures)) in omega (arith, inside_session (entered_range e) (entered_below e) c.shelf_at-at.ensures)
+
+pub slice_bounds-put_shelf_file-end : goal.slice_bounds-put_shelf_file-end
+slice_bounds-put_shelf_file-end c = let e = (granted_means _ _ _ (sym (ap entry_of c.in-Granted.is) ∙ c.enter-entry.ensures)) in omega (arith, inside_session (entered_range e) (entered_below e) c.shelf_at-at.ensures)
+
+pub put_shelf_file-size-requires : goal.put_shelf_file-size-requires
+put_shelf_file-size-requires c = let e = (granted_means _ _ _ (sym (ap entry_of c.in-Granted.is) ∙ c.enter-entry.ensures)) in part_asks _ _ _ (entered_range e) (entered_below e) c.shelf_at-at.ensures c.sound-in-Granted.ensures c.if-not-sound.false-raw
+
+pub returns-then-size-eq0 : goal.returns-then-size-eq0
+returns-then-size-eq0 c = let e = (granted_means _ _ _ (sym (ap entry_of c.in-Granted.is) ∙ c.enter-entry.ensures)) in let p = part_wrote _ _ _ (entered_range e) (entered_below e) c.shelf_at-at.ensures c.args.output.now c.put_shelf_file-size.ensures in write_full _ _ _ e c.args.output.now (sound_is _ _ _ (entered_range e) (entered_below e) c.shelf_at-at.ensures c.sound-in-Granted.ensures) c.if-not-sound.false-raw (part_sound _ _ _ (entered_range e) (entered_below e) c.shelf_at-at.ensures c.sound-in-Granted.ensures c.if-not-sound.false-raw) p.0 p.1 c.if-size-eq0.true
+
+pub returns-else-size-eq0 : goal.returns-else-size-eq0
+returns-else-size-eq0 c = let e = (granted_means _ _ _ (sym (ap entry_of c.in-Granted.is) ∙ c.enter-entry.ensures)) in let p = part_wrote _ _ _ (entered_range e) (entered_below e) c.shelf_at-at.ensures c.args.output.now c.put_shelf_file-size.ensures in write_done _ _ _ e c.args.output.now (sound_is _ _ _ (entered_range e) (entered_below e) c.shelf_at-at.ensures c.sound-in-Granted.ensures) c.if-not-sound.false-raw (part_sound _ _ _ (entered_range e) (entered_below e) c.shelf_at-at.ensures c.sound-in-Granted.ensures c.if-not-sound.false-raw) p.0 p.1 c.if-size-eq0.false
+
+pub returns-in-Refused : goal.returns-in-Refused
+returns-in-Refused c = write_refused _ _ c.args.output.now _ (sym (ap entry_of c.in-Refused.is) ∙ c.enter-entry.ensures)

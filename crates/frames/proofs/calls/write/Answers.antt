@@ -1,0 +1,11 @@
+-- `frames::calls::write` meets its contract.
+use Rattle.frames.proofs.Carried.{write_wrong, write_done}
+use native.Mathlib.Omega.{arith}
+use borrow.Author.Rules.{rules}
+use Rattle.frames.proofs.calls.write.Goals as goal
+
+pub returns-then-bytes-ne4 : goal.returns-then-bytes-ne4
+returns-then-bytes-ne4 c = write_wrong _ _ c.if-bytes-ne4.true _
+
+pub returns : goal.returns
+returns c = write_done _ _ (omega arith) c.word_at.ensures c.args.output.now c.requires c.take_write-number.ensures.0 c.take_write-number.ensures.1.0 c.take_write-number.ensures.1.1

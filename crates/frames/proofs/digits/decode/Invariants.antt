@@ -1,0 +1,14 @@
+-- `frames::digits::decode` meets its contract. The measure is how many bytes are left to read.
+use mathlib.Core.Path.{◌≡◌, refl}
+use native.Mathlib.Omega.{arith}
+use Prim.Native.Nat.{◌/◌, ◌-◌}
+use lib.ListN.{length}
+use Rattle.frames.proofs.Decoding.{Reads, reads-start, reads_pair, too_long, odd, high_other, low_other, all_read}
+use borrow.Author.Rules.{rules}
+use Rattle.frames.proofs.digits.decode.Given as goal
+
+abbrev pub invariant-loop-i : goal.invariant-loop-i
+invariant-loop-i l = (l.count ≡ length l.line / 2) × Reads l.line l.initial.bytes l.bytes l.i
+
+abbrev pub decreases-loop-i : goal.decreases-loop-i
+decreases-loop-i l = l.count - l.i

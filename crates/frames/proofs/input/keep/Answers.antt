@@ -1,0 +1,11 @@
+-- `frames::input::keep` meets its contract.
+use Rattle.frames.proofs.Inputs.{keep_more, keep-none}
+use native.Mathlib.Omega.{arith}
+use borrow.Author.Rules.{rules}
+use Rattle.frames.proofs.input.keep.Goals as goal
+
+pub returns-then-count-lt-MAX_KEPT : goal.returns-then-count-lt-MAX_KEPT
+returns-then-count-lt-MAX_KEPT c = (omega arith, keep_more c.args.line.now c.args.count c.args.c (omega arith) (omega arith))
+
+pub returns : goal.returns
+returns c = (omega arith, keep-none c.args.line.now c.args.count c.args.c (omega arith) (omega arith) (omega arith))

@@ -1,0 +1,8 @@
+-- `reader::sounding::put_lane` meets its contract.
+use mathlib.Core.Path.{sym}
+use Rattle.midi.proofs.Tables.{key-put}
+use borrow.Author.Rules.{rules}
+use Rattle.reader.proofs.sounding.put_lane.Goals as goal
+
+pub returns : goal.returns
+returns c = let a = c.args in (sym (key-put a.starts.now a.channel a.key c.requires.1 a.start), sym (key-put a.velocities.now a.channel a.key c.requires.1 a.velocity))

@@ -1,0 +1,13 @@
+-- `session::rules::is_filled` meets its contract.
+use Rattle.model.specs.Soundness.{filled}
+use native.Mathlib.Omega.{arith}
+use borrow.Author.Tests.{lt_ltb, le_ltb, lt-leb, le_leb, eq_eqb, ne_eqb}
+use Rattle.session.proofs.rules.is_filled.Goals as goal
+
+pub returns-then-d-eq0 : goal.returns-then-d-eq0
+unfolding filled
+returns-then-d-eq0 c = search (lt_ltb, le_ltb, lt-leb, le_leb, eq_eqb, ne_eqb, arith)
+
+pub returns : goal.returns
+unfolding filled
+returns c = search (lt_ltb, le_ltb, lt-leb, le_leb, eq_eqb, ne_eqb, arith)

@@ -1,0 +1,16 @@
+-- `session::runs::gives_none` meets its contract. The measure is how many cells are left.
+use native.Mathlib.Omega.{arith}
+use Rattle.session.specs.Running.{from_shown}
+use Rattle.session.specs.Reading.{last_cells}
+use mathlib.Core.Path.{◌≡◌, refl, sym, ◌∙◌}
+use Prim.Native.Nat.{◌≤◌}
+use Rattle.session.proofs.Lasts.{shown_past, shown_stop, shown_end, link_end}
+use Rattle.session.proofs.Standings.{by_last, nothing_given}
+use borrow.Author.Rules.{rules}
+use Rattle.session.proofs.runs.gives_none.Given as goal
+
+abbrev pub invariant-loop-at : goal.invariant-loop-at
+invariant-loop-at l = (from_shown l.h (last_cells l.part l.end l.at) ≡ from_shown l.h (last_cells l.part l.end l.left)) × (l.at ≤ l.left)
+
+abbrev pub decreases-loop-at : goal.decreases-loop-at
+decreases-loop-at l = l.at
