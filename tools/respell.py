@@ -8,6 +8,7 @@ Each row of the table is an old name, a tab, a new name. Whole words turn, in .a
 the documents. Names of the program (functions, fields, constants of src/) have snake case already and are not touched.
 """
 import collections
+import functools
 import glob
 import os
 import re
@@ -68,6 +69,17 @@ def camels(top):
     return found
 
 
+@functools.lru_cache
+def imported(top):
+    """The names that some text imports from a library of the kit: these stay."""
+    found = set()
+    for f in texts(top):
+        for module, names in re.findall(r"^(?:ghost )?use ([A-Za-z.]+?)\.\{([^}]*)\}", open(f, encoding="utf-8").read(), re.M):
+            if re.match(r"Rattle\.(std|core)\b|(?!Rattle\.)", module):
+                found |= {n.strip().split(" as ")[0] for n in names.split(",")}
+    return found
+
+
 def spelled(name, definitions):
     """Snake case; a dash stays between two names of definitions, and behind a type."""
     parts = [snake(p) for p in name.split("-")]
@@ -88,7 +100,7 @@ def write_table(top):
     rows = {}
     for n in sorted(set(names) | camels(top)):
         to = spelled(n, definitions)
-        if to != n:
+        if to != n and n not in imported(top):
             rows[n] = to
     # A lemma that would have its function's name gets _lem.
     for _, old, new in collisions(top, rows):

@@ -5,7 +5,7 @@ use mathlib.Core.List.{List, [], ◌∷◌}
 use Prim.Native.Nat.{ℕ, ◌+◌, ◌*◌, ◌/◌, ◌%◌, ◌≤◌, ◌<◌}
 use native.Mathlib.Nat.{div-add-mod'}
 use native.Mathlib.Omega.{arith}
-use borrow.Author.Tests.{leb_true, eqb-true, le_leb, lt-leb}
+use borrow.Author.Tests.{leb-true, eqb-true, le-leb, lt-leb}
 use lib.Dec.{leb, eqb}
 use lib.ListN.{length, get_or}
 use Rattle.model.specs.Limits.{max_beats}
@@ -62,7 +62,7 @@ module _ (h : Header) (beats : ℕ) (ws : List ℕ) where
   module _ (few : beats ≤ max_beats) where
     pub no_list : list_of answers.Refused ≡ list_asked h beats ws → lay_of (Refused 7) ≡ lay_asked h beats ws
     unfolding lay_asked
-    no_list e = rw (le_leb beats max_beats few, list_refused e)
+    no_list e = rw (le-leb beats max_beats few, list_refused e)
 
     module _ (k : ℕ) (e : list_of (answers.Cells k) ≡ list_asked h beats ws) where
       pub used : 3 + length ws + 6 * k ≡ words_used (length ws / 4) k
@@ -70,7 +70,7 @@ module _ (h : Header) (beats : ℕ) (ws : List ℕ) where
 
       by_room : (t : Bool) → leb (words_used (length ws / 4) k) h.words ≡ t → cond t (0, k ∷ []) (8, []) ≡ lay_asked h beats ws
       unfolding lay_asked list_fits
-      by_room t f = rw (le_leb beats max_beats few, (counted_means k e).0, ← (counted_means k e).1, f)
+      by_room t f = rw (le-leb beats max_beats few, (counted_means k e).0, ← (counted_means k e).1, f)
 
       pub no_room : leb (3 + length ws + 6 * k) h.words ≡ false → lay_of (Refused 8) ≡ lay_asked h beats ws
       no_room f = by_room false (rw used at f)
@@ -90,7 +90,7 @@ module _ (h : Header) (beats : ℕ) (ws : List ℕ) where
       → ◌≡◌ {A = ℕ × List ℕ} (0, k ∷ []) (cond a (cond b (cond c (0, cells_listed h beats ws ∷ []) (8, [])) (7, [])) (6, [])) → Laid k
   laid_by k true true true ea eb ec e =
       let is : k ≡ cells_listed h beats ws = ap (λ (p : ℕ × List ℕ). get_or p.1 0 0) e in
-      record { few = leb_true _ _ ea; list = eb; cells = is; fits = rw is (leb_true _ _ ec) }
+      record { few = leb-true _ _ ea; list = eb; cells = is; fits = rw is (leb-true _ _ ec) }
   laid_by k true true false ea eb ec e = absurd (let z : ◌≡◌ {A = ℕ} 0 8 = ap (λ (p : ℕ × List ℕ). p.0) e in omega arith)
   laid_by k true false c ea eb ec e = absurd (let z : ◌≡◌ {A = ℕ} 0 7 = ap (λ (p : ℕ × List ℕ). p.0) e in omega arith)
   laid_by k false b c ea eb ec e = absurd (let z : ◌≡◌ {A = ℕ} 0 6 = ap (λ (p : ℕ × List ℕ). p.0) e in omega arith)

@@ -1,10 +1,10 @@
 -- Lay: the number and the words, by the way that the call goes. Assumes nothing.
 use mathlib.Core.Path.{◌≡◌, refl, sym, ap, ◌∙◌}
-use mathlib.Core.Bool.{Bool, true, false, cond, not, and_true}
+use mathlib.Core.Bool.{Bool, true, false, cond, not, and-true}
 use mathlib.Core.List.{List, [], ◌∷◌}
 use Prim.Native.Nat.{ℕ, zero, suc, ◌/◌, ◌≤◌, ◌<◌}
 use native.Mathlib.Omega.{arith}
-use borrow.Author.Tests.{lt_ltb, eqb-false, not-true}
+use borrow.Author.Tests.{lt-ltb, eqb-false, not-true}
 use lib.Dec.{leb, ltb, eqb}
 use lib.ListN.{length}
 use Rattle.words.specs.Splice.{splice}
@@ -76,15 +76,15 @@ module _ (s : List ℕ) (i beats : ℕ) (ws : List ℕ) where
 
   q2 : shelves_ok h (lay_call i beats ws) ≡ ltb i h.shelves
   unfolding shelves_ok
-  q2 = and_true (ltb i h.shelves)
+  q2 = and-true (ltb i h.shelves)
 
   q6 : beats_ok h s (lay_call i beats ws) ≡ leb beats max_beats
   unfolding beats_ok results recording_take listed
-  q6 = and_true (leb beats max_beats)
+  q6 = and-true (leb beats max_beats)
 
   q8 : results_fit h s (lay_call i beats ws) ≡ fits h (recording_take h.delta (listed beats ws))
   unfolding results_fit results
-  q8 = and_true (fits h (recording_take h.delta (listed beats ws)))
+  q8 = and-true (fits h (recording_take h.delta (listed beats ws)))
 
   number_is : number s (lay_call i beats ws)
       ≡ cond (header_ok h (length s)) (cond (ltb i h.shelves) (cond (leb beats max_beats) (cond (list_ok h beats ws) (cond (fits h (recording_take h.delta (listed beats ws))) 0 8) 7) 6) 2) 1
@@ -154,7 +154,7 @@ module _ (s : List ℕ) (i beats : ℕ) (ws : List ℕ) where
     number-asked : number s (lay_call i beats ws) ≡ (lay_asked h beats ws).0
     number-asked =
         number_is
-        ∙ rw (entered.header, lt_ltb i h.shelves entered.below)
+        ∙ rw (entered.header, lt-ltb i h.shelves entered.below)
         (asked-number range.some-ticks (leb beats max_beats) (list_ok h beats ws) refl refl)
 
     pub refused_asked : (q : ℕ) → lay_of (Refused q) ≡ lay_asked g beats ws → (q ≡ number s (lay_call i beats ws)) × (s ≡ after s (lay_call i beats ws))

@@ -1,10 +1,10 @@
 -- Join: the number by the way that the questions go. Assumes nothing.
 use mathlib.Core.Path.{◌≡◌, refl, sym, ap, ◌∙◌}
-use mathlib.Core.Bool.{Bool, true, false, cond, not, ◌&&◌, and_true}
+use mathlib.Core.Bool.{Bool, true, false, cond, not, ◌&&◌, and-true}
 use mathlib.Core.List.{List, [], ◌∷◌}
 use Prim.Native.Nat.{ℕ, ◌+◌, ◌*◌, ◌≤◌, ◌<◌}
 use native.Mathlib.Omega.{arith}
-use borrow.Author.Tests.{leb_true, ltb-true, le_leb, lt-leb, eq_eqb, ne_eqb, not-true, not-false}
+use borrow.Author.Tests.{leb-true, ltb-true, le-leb, lt-leb, eq-eqb, ne_eqb, not-true, not-false}
 use lib.Dec.{leb, ltb, eqb}
 use lib.ListN.{length}
 use Rattle.words.specs.Splice.{splice}
@@ -40,7 +40,7 @@ module _ (K i j k : ℕ) where
 
 module _ (i j k : ℕ) where
   pub result_is_first : k ≡ i → false ≡ not (eqb k i) && not (eqb k j)
-  result_is_first e = rw (eq_eqb k i e)
+  result_is_first e = rw (eq-eqb k i e)
 
   pub result_and_second : (k ≡ i → ⊥) → not (eqb k j) ≡ not (eqb k i) && not (eqb k j)
   result_and_second d = rw (ne_eqb k i d)
@@ -80,7 +80,7 @@ module _ (h : Header) (s : List ℕ) (i j k : ℕ) where
 
   q2 : shelves_ok h (join_call i j k) ≡ below
   unfolding shelves_ok
-  q2 = rw (and_true (ltb k h.shelves))
+  q2 = rw (and-true (ltb k h.shelves))
 
   q3 : writes_differ (join_call i j k) ≡ apart
   unfolding writes_differ
@@ -93,15 +93,15 @@ module _ (h : Header) (s : List ℕ) (i j k : ℕ) where
 
   q4 : reads_sound h s (join_call i j k) ≡ sound h s i j
   unfolding reads_sound
-  q4 = rw (and_true (sound_shelf h (shelf h s j)))
+  q4 = rw (and-true (sound_shelf h (shelf h s j)))
 
   q6 : beats_ok h s (join_call i j k) ≡ short
   unfolding beats_ok results join_takes
-  q6 = and_true short
+  q6 = and-true short
 
   q8 : results_fit h s (join_call i j k) ≡ room
   unfolding results_fit results
-  q8 = and_true room
+  q8 = and-true room
 
   asked_is : join_asked h s i j k ≡ cond below (cond apart (cond (sound h s i j) (cond short (cond room 0 8) 6) 4) 3) 2
   unfolding join_asked
@@ -128,7 +128,7 @@ module _ (h : Header) (s : List ℕ) (i j k : ℕ) where
   unfolding join_asked
   put_asks ok z =
       let yes = yes_all asked (omega arith) (rw (q2, q3, q4, q6, q8) at z) in
-      let few = leb_true ((take_at h s i).beats + (take_at h s j).beats) max_beats yes.1.1.1.0 in
+      let few = leb-true ((take_at h s i).beats + (take_at h s j).beats) max_beats yes.1.1.1.0 in
       record { asks = facts ok yes.0 yes.1.0 yes.1.1.0 few; fit = yes.1.1.1.1.0 }
 
   -- the ways out
@@ -166,7 +166,7 @@ module _ (h : Header) (s : List ℕ) (i j k : ℕ) where
 
             module _ {r : Bool} (l : r ≡ room) where
               by_room : (b : Bool) → r ≡ b → join_asked h s i j k ≡ cond b 0 8
-              by_room b t = by_beats true (le_leb ((take_at h s i).beats + (take_at h s j).beats) max_beats (omega (arith, m, n, z))) ∙ rw (← l, t)
+              by_room b t = by_beats true (le-leb ((take_at h s i).beats + (take_at h s j).beats) max_beats (omega (arith, m, n, z))) ∙ rw (← l, t)
 
               pub no_room : not r ≡ true → 8 ≡ join_asked h s i j k
               no_room t = sym (by_room false (not-true r t))

@@ -1,12 +1,12 @@
 -- Making the cells of notes: of one beat, of one note, of all notes that stand in a shelf. Assumes nothing.
 use mathlib.Core.Path.{◌≡◌, refl, sym, ap, ◌∙◌}
-use mathlib.Core.Bool.{Bool, true, false, ◌&&◌, and_true, and-false}
+use mathlib.Core.Bool.{Bool, true, false, ◌&&◌, and-true, and-false}
 use mathlib.Core.List.{List, [], ◌∷◌, ◌++◌, append_assoc, append-nil}
 use Prim.Native.Nat.{ℕ, suc, ◌+◌, ◌*◌, ◌-◌, ◌/◌, ◌≤◌, ◌<◌}
 use native.Mathlib.Nat.{mul-le-mul_right, le-div_iff_mul-le, div-lt_iff_lt-mul, suc-mul}
 use native.Mathlib.Numerals.{add-one}
 use native.Mathlib.Omega.{arith}
-use borrow.Author.Tests.{le_leb, lt-leb}
+use borrow.Author.Tests.{le-leb, lt-leb}
 use lib.Dec.{leb}
 use lib.ListN.{length, drop, length-append}
 use Rattle.words.specs.Apart.{Apart, Apart.ahead}
@@ -44,7 +44,7 @@ module _ (n : Note) (beat side line : ℕ) where
 
   pub touched : n.start ≤ line → line ≤ n.end → touched_cells n beat side line ≡ cell_at n beat side line ∷ []
   unfolding touched_cells
-  touched low high = rw (le_leb _ _ low, le_leb _ _ high)
+  touched low high = rw (le-leb _ _ low, le-leb _ _ high)
 
   pub made_touched : n.start ≤ line → line ≤ n.end → {s t : List ℕ} {at : ℕ} → t ≡ splice s at (cell_words (cell_at n beat side line))
       → Made s at (touched_cells n beat side line) t (at + 6)
@@ -70,7 +70,7 @@ module _ {δ : ℕ} {n : Note} (i : Beats δ n) where
   beat_lines b low high =
       let end : b * δ ≤ n.end = omega (arith, i.last_low, mul-le-mul_right δ high) in
       let start : n.start ≤ suc b * δ = omega (arith, i.high, suc-mul b δ, mul-le-mul_right δ low) in
-      rw (le_leb _ _ end, le_leb _ _ start, and_true) (both_or_one (leb n.start (b * δ)) (leb (suc b * δ) n.end) (cell_at n b 0 (b * δ)) (cell_at n b 1 (suc b * δ)))
+      rw (le-leb _ _ end, le-leb _ _ start, and-true) (both_or_one (leb n.start (b * δ)) (leb (suc b * δ) n.end) (cell_at n b 0 (b * δ)) (cell_at n b 1 (suc b * δ)))
 
   -- the first line, and those behind it
   note-lines : cells_of_note δ n ≡ touched_cells n (first_beat δ n) 0 (first_beat δ n * δ) ++ cells_behind δ n (first_beat δ n)

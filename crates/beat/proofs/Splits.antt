@@ -1,10 +1,10 @@
 -- Split: the number by the way that the questions go, and both halves' words. Assumes nothing.
 use mathlib.Core.Path.{◌≡◌, refl, sym, ◌∙◌}
-use mathlib.Core.Bool.{Bool, true, false, cond, not, ◌&&◌, and_true}
+use mathlib.Core.Bool.{Bool, true, false, cond, not, ◌&&◌, and-true}
 use mathlib.Core.List.{List, [], ◌∷◌}
 use Prim.Native.Nat.{ℕ, ◌+◌, ◌≤◌, ◌<◌}
 use native.Mathlib.Omega.{arith}
-use borrow.Author.Tests.{leb_true, ltb-true, le_leb, lt-leb, le_ltb, lt_ltb, eq_eqb, ne_eqb, not-true, not-false}
+use borrow.Author.Tests.{leb-true, ltb-true, le-leb, lt-leb, le-ltb, lt-ltb, eq-eqb, ne_eqb, not-true, not-false}
 use lib.Dec.{ltb, eqb}
 use lib.ListN.{length, get_or}
 use Rattle.words.specs.Splice.{splice}
@@ -33,25 +33,25 @@ use Rattle.session.proofs.Sources.{beats_is, inside_session, place_asks}
 
 module _ (K i l r : ℕ) where
   pub first_above : K ≤ i → false ≡ ltb i K && (ltb l K && ltb r K)
-  first_above a = rw (le_ltb i K a)
+  first_above a = rw (le-ltb i K a)
 
   module _ (b : i < K) where
     pub second_above : K ≤ l → false ≡ ltb i K && (ltb l K && ltb r K)
-    second_above a = rw (lt_ltb i K b, le_ltb l K a)
+    second_above a = rw (lt-ltb i K b, le-ltb l K a)
 
     pub third_is : l < K → ltb r K ≡ ltb i K && (ltb l K && ltb r K)
-    third_is a = rw (lt_ltb i K b, lt_ltb l K a)
+    third_is a = rw (lt-ltb i K b, lt-ltb l K a)
 
   pub shelf-below : {p : Bool} → p ≡ (ltb i K && (ltb l K && ltb r K)) → not p ≡ false → i < K
   shelf-below {p} e t = ltb-true i K (and_left (ltb i K) (ltb l K && ltb r K) (sym e ∙ not-false p t))
 
 module _ (i l r : ℕ) where
   pub left_is_right : l ≡ r → false ≡ not (eqb l r) && (not (eqb l i) && not (eqb r i))
-  left_is_right a = rw (eq_eqb l r a)
+  left_is_right a = rw (eq-eqb l r a)
 
   module _ (b : l ≡ r → ⊥) where
     pub left_is_take : l ≡ i → false ≡ not (eqb l r) && (not (eqb l i) && not (eqb r i))
-    left_is_take a = rw (ne_eqb l r b, eq_eqb l i a)
+    left_is_take a = rw (ne_eqb l r b, eq-eqb l i a)
 
     pub right_and_take : (l ≡ i → ⊥) → not (eqb r i) ≡ not (eqb l r) && (not (eqb l i) && not (eqb r i))
     right_and_take a = rw (ne_eqb l r b, ne_eqb l i a)
@@ -76,7 +76,7 @@ module _ (h : Header) (s : List ℕ) (i k l r : ℕ) where
 
   q2 : shelves_ok h (split_call i k l r) ≡ below
   unfolding shelves_ok
-  q2 = rw (and_true (ltb r h.shelves))
+  q2 = rw (and-true (ltb r h.shelves))
 
   q3 : writes_differ (split_call i k l r) ≡ apart
   unfolding writes_differ
@@ -90,7 +90,7 @@ module _ (h : Header) (s : List ℕ) (i k l r : ℕ) where
 
   q4 : reads_sound h s (split_call i k l r) ≡ sound
   unfolding reads_sound
-  q4 = and_true sound
+  q4 = and-true sound
 
   asked_is : split_asked h s i k l r ≡ cond below (cond apart (cond sound (cond within 0 5) 4) 3) 2
   unfolding split_asked
@@ -130,7 +130,7 @@ module _ (h : Header) (s : List ℕ) (i : ℕ) (range : InRange h (length s)) (b
 
       pub beat_inside : k ≤ get_or s at 0 → beat_within h s i k ≡ true
       unfolding beat_within
-      beat_inside le = le_leb k (take_at h s i).beats (omega (arith, beats_is h s i range below-K place))
+      beat_inside le = le-leb k (take_at h s i).beats (omega (arith, beats_is h s i range below-K place))
 
 -- ---- both halves
 
@@ -167,7 +167,7 @@ module _ {s : List ℕ} {h : Header} {i k l r : ℕ} (a : SplitAsks s h i k l r)
         take_left = λ e. unlike l i (and_left (not (eqb l i)) (not (eqb r i)) differ) (sym e);
         take-right = λ e. unlike r i (and_right (not (eqb l i)) (not (eqb r i)) differ) (sym e);
         is_sound = yes.1.1.0;
-        beat_in = leb_true k (take_at h s i).beats yes.1.1.1.0;
+        beat_in = leb-true k (take_at h s i).beats yes.1.1.1.0;
         beats_few = sound_beats h range.some-ticks (shelf h s i) yes.1.1.0;
       }
 

@@ -4,7 +4,7 @@ use mathlib.Core.Bool.{Bool, true, false, cond}
 use mathlib.Core.List.{List, [], ◌∷◌}
 use Prim.Native.Nat.{ℕ, ◌+◌, ◌-◌, ◌*◌, ◌≤◌, ◌<◌}
 use native.Mathlib.Omega.{arith}
-use borrow.Author.Tests.{le_leb, lt-leb, le_ltb, lt_ltb, ltb-true, ltb-false}
+use borrow.Author.Tests.{le-leb, lt-leb, le-ltb, lt-ltb, ltb-true, ltb-false}
 use lib.Dec.{ltb}
 use lib.ListN.{length}
 use Rattle.words.specs.Apart.{Apart}
@@ -188,7 +188,7 @@ module _ (k : ℕ) (c : Cell) where
   module _ (i : c.beat < k) where
     kept : left_cell k c ≡ c ∷ []
     unfolding left_cell
-    kept = rw (lt_ltb c.beat k i)
+    kept = rw (lt-ltb c.beat k i)
 
     not_right : right_cell k c ≡ []
     unfolding right_cell
@@ -204,11 +204,11 @@ module _ (k : ℕ) (c : Cell) where
   module _ (i : k ≤ c.beat) where
     moved : right_cell k c ≡ cell_to (c.beat - k) c ∷ []
     unfolding right_cell
-    moved = rw (le_leb k c.beat i)
+    moved = rw (le-leb k c.beat i)
 
     not_left : left_cell k c ≡ []
     unfolding left_cell
-    not_left = rw (le_ltb c.beat k i)
+    not_left = rw (le-ltb c.beat k i)
 
     moved_room : (to len : ℕ) → to + 6 * length (right_cell k c) ≤ len → to + 6 ≤ len
     moved_room to len r = rw moved at r

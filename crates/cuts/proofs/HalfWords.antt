@@ -6,7 +6,7 @@ use Prim.Native.Nat.{ℕ, suc, ◌+◌, ◌-◌, ◌*◌, ◌≤◌, ◌<◌}
 use native.Mathlib.Nat.{mul-le-mul, mul-le-mul_right, suc-mul}
 use native.Mathlib.Decide.{ℕ_discrete}
 use native.Mathlib.Omega.{arith}
-use borrow.Author.Tests.{leb_true, leb-false}
+use borrow.Author.Tests.{leb-true, leb-false}
 use lib.Dec.{leb, ltb}
 use lib.ListN.{length, get_or, drop}
 use lib.Seq.{get_or-drop, get_or-take}
@@ -43,7 +43,7 @@ module _ (h : Header) where
       ]
     where
       go : (t : Bool) → leb (suc i) j ≡ t → Apart (shelf_at h i) h.words (shelf_at h j) h.words
-      go true e = ahead (omega (arith, suc-mul i h.words, mul-le-mul_right h.words (leb_true (suc i) j e)))
+      go true e = ahead (omega (arith, suc-mul i h.words, mul-le-mul_right h.words (leb-true (suc i) j e)))
       go false e = let less : suc j ≤ i = omega (arith, leb-false (suc i) j e) in behind (omega (arith, suc-mul j h.words, mul-le-mul_right h.words less))
 
 -- ---- cells

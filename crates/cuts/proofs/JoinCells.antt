@@ -4,7 +4,7 @@ use mathlib.Core.Bool.{Bool, true, false}
 use mathlib.Core.List.{List, [], ◌∷◌, ◌++◌, map, append_assoc}
 use Prim.Native.Nat.{ℕ, zero, suc, ◌+◌, ◌-◌, ◌*◌, ◌≤◌, ◌<◌}
 use native.Mathlib.Omega.{arith}
-use borrow.Author.Tests.{le_leb, lt-leb, leb_true, leb-false}
+use borrow.Author.Tests.{le-leb, lt-leb, leb-true, leb-false}
 use lib.Dec.{leb}
 use lib.ListN.{length, length-append}
 use Rattle.words.specs.Apart.{Apart, apart-within, apart_swap}
@@ -32,11 +32,11 @@ module _ (l : ℕ) (c : Cell) (cs : List Cell) where
   module _ (h : l ≤ c.lane) where
     pub lower_stop : lower_cells l (c ∷ cs) ≡ []
     unfolding lower_cells
-    lower_stop = rw (le_leb l c.lane h)
+    lower_stop = rw (le-leb l c.lane h)
 
     pub upper_stop : upper_cells l (c ∷ cs) ≡ c ∷ cs
     unfolding upper_cells
-    upper_stop = rw (le_leb l c.lane h)
+    upper_stop = rw (le-leb l c.lane h)
 
   module _ (h : c.lane < l) where
     pub lower_go : lower_cells l (c ∷ cs) ≡ c ∷ lower_cells l cs
@@ -83,7 +83,7 @@ all-last P s end (suc k) j h fits a = go (leb j k) refl (λ few. all-last P s en
     tail = let one : suc k - 1 ≡ k = omega arith in (rw (last_cells_lem s end (suc k) (omega arith) fits, one) at a).1
 
     go : (b : Bool) → leb j k ≡ b → (j ≤ k → All P (last_cells s end j)) → All P (last_cells s end j)
-    go true e more = more (leb_true j k e)
+    go true e more = more (leb-true j k e)
     go false e more = let is : j ≡ suc k = omega (arith, leb-false j k e) in rw is a
 
 -- the cells of a run are as they were

@@ -4,7 +4,7 @@ use mathlib.Core.Bool.{Bool, true, false, not, true≢false}
 use mathlib.Core.List.{List, [], ◌∷◌, ◌++◌}
 use Prim.Native.Nat.{ℕ, suc, ◌+◌, ◌-◌, ◌*◌, ◌≤◌, ◌<◌, min}
 use native.Mathlib.Omega.{arith}
-use borrow.Author.Tests.{eq_eqb, eqb-true, leb_true, leb-false, not-true, not-false}
+use borrow.Author.Tests.{eq-eqb, eqb-true, leb-true, leb-false, not-true, not-false}
 use lib.Dec.{eqb, leb}
 use lib.ListN.{length, length-append}
 use Rattle.model.specs.Binding.{stands_alone}
@@ -96,7 +96,7 @@ module _ {s : List ℕ} {r : CellRun} (a : RunAhead s r) where
         by : (b : Bool) → eqb c.lane r.lane ≡ b → first_or d (cell_run r.lane (last_cells s r.end r.left)) ≡ c
         by true e = rw (ap (cell_run r.lane) front ∙ run_go (λ c. c.lane) r.lane c cs (eqb-true c.lane r.lane e))
         by false e =
-            let run : cell_run r.lane (last_cells s r.end r.left) ≡ [] = ap (cell_run r.lane) front ∙ run_stop (λ c. c.lane) r.lane c cs (λ f. true≢false (sym (eq_eqb c.lane r.lane f) ∙ e)) in
+            let run : cell_run r.lane (last_cells s r.end r.left) ≡ [] = ap (cell_run r.lane) front ∙ run_stop (λ c. c.lane) r.lane c cs (λ f. true≢false (sym (eq-eqb c.lane r.lane f) ∙ e)) in
             absurd (some (omega (arith, counted, ap length run)))
 
 -- ---- the pair of a lane
@@ -240,7 +240,7 @@ module _ {s : List ℕ} {h : Header} {beats : ℕ} {first second : Contents} (a 
           where
             go : (b : Bool) → leb x y ≡ b → p.rest + q.rest < left + over
             go true t =
-                let own : lane_ahead (λ c. c.lane) cs ≡ lane = omega (arith, e, least, leb_true x y t) in
+                let own : lane_ahead (λ c. c.lane) cs ≡ lane = omega (arith, e, least, leb-true x y t) in
                 omega (arith, ahead-some lane cs own lane_below, ap length first-cells, counted g.ahead, g.left_is, i.ahead.fewer, i.left_is)
             go false t =
                 let own : lane_ahead (λ c. c.lane) ds ≡ lane = omega (arith, f, least, leb-false x y t) in

@@ -4,7 +4,7 @@ use mathlib.Core.Bool.{Bool, true, false}
 use mathlib.Core.List.{List}
 use Prim.Native.Nat.{ℕ, ◌+◌, ◌*◌, ◌≤◌, min}
 use native.Mathlib.Omega.{arith}
-use borrow.Author.Tests.{le_leb, leb_true, leb-false}
+use borrow.Author.Tests.{le-leb, leb-true, leb-false}
 use lib.Dec.{leb}
 use lib.ListN.{length}
 use Rattle.model.specs.Limits.{lane_count, max_words}
@@ -31,8 +31,8 @@ same_test : (a b c d : ℕ) → (a ≤ b → c ≤ d) → (c ≤ d → a ≤ b) 
 same_test a b c d f g = go (leb a b) (leb c d) refl refl
   where
     go : (x y : Bool) → leb a b ≡ x → leb c d ≡ y → leb a b ≡ leb c d
-    go true y e e' = e ∙ sym (le_leb c d (f (leb_true a b e)))
-    go false true e e' = let h = g (leb_true c d e') in absurd (omega (arith, leb-false a b e))
+    go true y e e' = e ∙ sym (le-leb c d (f (leb-true a b e)))
+    go false true e e' = let h = g (leb-true c d e') in absurd (omega (arith, leb-false a b e))
     go false false e e' = e ∙ sym e'
 
 module _ {s : List ℕ} {h : Header} {i j k : ℕ} (a : JoinAsks s h i j k) where
@@ -82,9 +82,9 @@ module _ {s : List ℕ} {h : Header} {i j k : ℕ} (a : JoinAsks s h i j k) wher
     pub fits-at_once : {m : ℕ} → m ≡ min lane_count (min first.cells second.cells) → {b : Bool} → b ≡ leb (counted_words first second m) (h.words + 4 * 0) → b ≡ true → true ≡ fits h both
     unfolding fits counted_words
     fits-at_once {m} e f g =
-        let yes : counted_words first second m ≤ h.words + 4 * 0 = leb_true _ _ (sym f ∙ g) in
+        let yes : counted_words first second m ≤ h.words + 4 * 0 = leb-true _ _ (sym f ∙ g) in
         let room = join-room h (range a).some-ticks (range a).kept-within t u (solid_first a) (solid_second a) in
-        sym (le_leb (3 + 4 * length (notes_of h both) + 6 * length both.cells) h.words (omega (arith, yes, e, room, join_has, first-notes, second_notes, first-cells, second_cells)))
+        sym (le-leb (3 + 4 * length (notes_of h both) + 6 * length both.cells) h.words (omega (arith, yes, e, room, join_has, first-notes, second_notes, first-cells, second_cells)))
 
     -- by the pairs that are counted
     abbrev pairs : List (Cell × Cell)

@@ -4,7 +4,7 @@ use mathlib.Core.Bool.{Bool, true, false, cond, true≢false}
 use mathlib.Core.List.{List, [], ◌∷◌, ◌++◌, map}
 use Prim.Native.Nat.{ℕ, zero, suc, ◌+◌, ◌-◌, ◌*◌, ◌≤◌, ◌<◌, min}
 use native.Mathlib.Omega.{arith}
-use borrow.Author.Tests.{eq_eqb, eqb-true, ne_eqb, leb_true, leb-false}
+use borrow.Author.Tests.{eq-eqb, eqb-true, ne_eqb, leb-true, leb-false}
 use lib.Dec.{leb, eqb}
 use lib.ListN.{length, length-append}
 use Rattle.words.specs.Splice.{splice}
@@ -51,11 +51,11 @@ module _ {A : Type 0} (lane : A → ℕ) (l : ℕ) where
     module _ (e : lane x ≡ l) where
       pub run_go : run_of lane l (x ∷ xs) ≡ x ∷ run_of lane l xs
       unfolding run_of
-      run_go = rw (eq_eqb (lane x) l e)
+      run_go = rw (eq-eqb (lane x) l e)
 
       pub rest_go : rest_of lane l (x ∷ xs) ≡ rest_of lane l xs
       unfolding rest_of
-      rest_go = rw (eq_eqb (lane x) l e)
+      rest_go = rw (eq-eqb (lane x) l e)
 
     module _ (d : lane x ≡ l → ⊥) where
       pub run_stop : run_of lane l (x ∷ xs) ≡ []
@@ -76,7 +76,7 @@ all-last_notes P s end (suc k) j h fits a = go (leb j k) refl (λ few. all-last_
     tail = let one : suc k - 1 ≡ k = omega arith in (rw (last_notes_lem s end (suc k) (omega arith) fits, one) at a).1
 
     go : (b : Bool) → leb j k ≡ b → (j ≤ k → All P (last_notes s end j)) → All P (last_notes s end j)
-    go true e more = more (leb_true j k e)
+    go true e more = more (leb-true j k e)
     go false e more = let is : j ≡ suc k = omega (arith, leb-false j k e) in rw is a
 
 -- the notes of a run are as they were
@@ -208,24 +208,24 @@ module _ (h : Header) (k : ℕ) (c d : Cell) where
   module _ (e : c.side ≡ 1) where
     pub over_not_last : (c.beat + 1 ≡ k → ⊥) → false ≡ bound_at h k c d
     unfolding bound_at
-    over_not_last n = rw (eq_eqb c.side 1 e, ne_eqb (suc c.beat) k (omega arith))
+    over_not_last n = rw (eq-eqb c.side 1 e, ne_eqb (suc c.beat) k (omega arith))
 
     module _ (f : c.beat + 1 ≡ k) where
       last_beat : eqb (suc c.beat) k ≡ true
-      last_beat = eq_eqb (suc c.beat) k (omega arith)
+      last_beat = eq-eqb (suc c.beat) k (omega arith)
 
       pub over_not_opening : (d.side ≡ 0 → ⊥) → false ≡ bound_at h k c d
       unfolding bound_at
-      over_not_opening n = rw (eq_eqb c.side 1 e, last_beat, ne_eqb d.side 0 n)
+      over_not_opening n = rw (eq-eqb c.side 1 e, last_beat, ne_eqb d.side 0 n)
 
       module _ (g : d.side ≡ 0) where
         pub over_not_first : (d.beat ≡ 0 → ⊥) → false ≡ bound_at h k c d
         unfolding bound_at
-        over_not_first n = rw (eq_eqb c.side 1 e, last_beat, eq_eqb d.side 0 g, ne_eqb d.beat 0 n)
+        over_not_first n = rw (eq-eqb c.side 1 e, last_beat, eq-eqb d.side 0 g, ne_eqb d.beat 0 n)
 
         pub over_bound : d.beat ≡ 0 → bound h c d ≡ bound_at h k c d
         unfolding bound_at
-        over_bound z = rw (eq_eqb c.side 1 e, last_beat, eq_eqb d.side 0 g, eq_eqb d.beat 0 z)
+        over_bound z = rw (eq-eqb c.side 1 e, last_beat, eq-eqb d.side 0 g, eq-eqb d.beat 0 z)
 
 -- ---- the note that goes over the line
 
@@ -264,13 +264,13 @@ module _ {A : Type 0} (lane : A → ℕ) (l : ℕ) (last : ℕ → List A) (at :
           counted = omega (arith, count, ap length run)
 
           here : (b : Bool) → leb (suc r) k ≡ b → last_or x (run_of lane l xs) ≡ at (r + 1)
-          here true f = ih counted (leb_true (suc r) k f)
+          here true f = ih counted (leb-true (suc r) k f)
           here false f =
               let is : r + 1 ≡ suc k = omega (arith, leb-false (suc r) k f, less) in
               let none : run_of lane l xs ≡ [] = nothing (run_of lane l xs) (omega (arith, counted)) in
               ap (last_or x) none ∙ ap at (sym is)
       by false e ih =
-          let run : run_of lane l (last (suc k)) ≡ [] = ap (run_of lane l) begins ∙ run_stop lane l x xs (λ f. true≢false (sym (eq_eqb (lane x) l f) ∙ e)) in
+          let run : run_of lane l (last (suc k)) ≡ [] = ap (run_of lane l) begins ∙ run_stop lane l x xs (λ f. true≢false (sym (eq-eqb (lane x) l f) ∙ e)) in
           absurd (omega (arith, count, ap length run, less))
 
 last-note : (s : List ℕ) (lane end : ℕ) (d : Note) (left r : ℕ) → 4 * left ≤ end → left ≡ r + length (note_run lane (last_notes s end left)) → r < left

@@ -5,7 +5,7 @@ use mathlib.Core.List.{List, [], ◌∷◌}
 use mathlib.Core.Option.{some}
 use Prim.Native.Nat.{ℕ, ◌+◌, ◌-◌, ◌*◌, ◌≤◌, ◌<◌}
 use native.Mathlib.Omega.{arith}
-use borrow.Author.Tests.{le_leb, lt-leb, eq_eqb, ne_eqb, not-true, not-false}
+use borrow.Author.Tests.{le-leb, lt-leb, eq-eqb, ne_eqb, not-true, not-false}
 use lib.ListN.{length}
 use Rattle.words.specs.Splice.{splice}
 use Rattle.model.specs.Lists.{cons_if}
@@ -44,12 +44,12 @@ one-note to len e h = rw e at h
 module _ (v : Half) (n : Note) (cs : List Cell) where
   pub none_before : n.end ≤ v.line → cs ≡ passed v n cs
   unfolding passed
-  none_before h = rw (le_leb n.end v.line h)
+  none_before h = rw (le-leb n.end v.line h)
 
   module _ (h : v.line < n.end) where
     pub none-behind : v.line ≤ n.start → cs ≡ passed v n cs
     unfolding passed
-    none-behind i = rw (lt-leb n.end v.line h, le_leb v.line n.start i)
+    none-behind i = rw (lt-leb n.end v.line h, le-leb v.line n.start i)
 
     pub some_across : n.start < v.line → skip n.lane v.edge cs ≡ passed v n cs
     unfolding passed
@@ -73,7 +73,7 @@ module _ (v : Half) (ws : List ℕ) (end : ℕ) where
 
       pub line_second : c.side ≡ 0 → first_cell (last_cells ws end (k - 1)) ≡ line_cell v (last_cells ws end k)
       unfolding line_cell closing_cell
-      line_second o = rw (e, split, eq_eqb c.side 0 o)
+      line_second o = rw (e, split, eq-eqb c.side 0 o)
 
       pub line_first : (c.side ≡ 0 → ⊥) → first_cell (last_cells ws end k) ≡ line_cell v (last_cells ws end k)
       unfolding line_cell first_cell closing_cell
@@ -125,21 +125,21 @@ module _ (h : Header) (v : Half) (n : Note) (cs : List Cell) where
   module _ (i : n.end ≤ v.line) where
     pub part-before-right : v.right ≡ true → part ≡ []
     unfolding note_part
-    part-before-right e = rw (le_leb n.end v.line i, e)
+    part-before-right e = rw (le-leb n.end v.line i, e)
 
     pub part-before-left : v.right ≡ false → part ≡ n ∷ []
     unfolding note_part
-    part-before-left e = rw (le_leb n.end v.line i, e)
+    part-before-left e = rw (le-leb n.end v.line i, e)
 
   module _ (i : v.line < n.end) where
     module _ (j : v.line ≤ n.start) where
       pub part-behind-right : v.right ≡ true → part ≡ note_back v.line n ∷ []
       unfolding note_part
-      part-behind-right e = rw (lt-leb n.end v.line i, le_leb v.line n.start j, e)
+      part-behind-right e = rw (lt-leb n.end v.line i, le-leb v.line n.start j, e)
 
       pub part-behind-left : v.right ≡ false → part ≡ []
       unfolding note_part
-      part-behind-left e = rw (lt-leb n.end v.line i, le_leb v.line n.start j, e)
+      part-behind-left e = rw (lt-leb n.end v.line i, le-leb v.line n.start j, e)
 
     pub part_across : n.start < v.line → part ≡ across_parts h v n cs
     unfolding note_part

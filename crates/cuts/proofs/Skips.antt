@@ -4,7 +4,7 @@ use mathlib.Core.Bool.{Bool, true, false, cond, ◌&&◌, ◌||◌}
 use mathlib.Core.List.{List, [], ◌∷◌}
 use Prim.Native.Nat.{ℕ, zero, suc, ◌+◌, ◌-◌, ◌*◌, ◌≤◌, ◌<◌}
 use native.Mathlib.Omega.{arith}
-use borrow.Author.Tests.{ltb-true, ltb-false, lt_ltb}
+use borrow.Author.Tests.{ltb-true, ltb-false, lt-ltb}
 use lib.Dec.{eqb, ltb}
 use lib.ListN.{length}
 use Rattle.model.specs.declared.Cell.{Cell}
@@ -25,7 +25,7 @@ module _ (l b d : ℕ) (up : b ≤ d) where
       go true q = refl
       go false q =
           let less : c.beat < b = ltb-true c.beat b (and_right (eqb c.lane l) (ltb c.beat b) q) in
-          rw (and_left (eqb c.lane l) (ltb c.beat b) q, lt_ltb c.beat d (omega arith))
+          rw (and_left (eqb c.lane l) (ltb c.beat b) q, lt-ltb c.beat d (omega arith))
 
   skip-skip : (cs : List Cell) → skip l d (skip l b cs) ≡ skip l d cs
   unfolding skip

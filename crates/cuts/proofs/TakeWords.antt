@@ -4,7 +4,7 @@ use mathlib.Core.Bool.{true}
 use mathlib.Core.List.{List}
 use Prim.Native.Nat.{ℕ, ◌+◌, ◌-◌, ◌*◌, ◌/◌, ◌≤◌}
 use native.Mathlib.Omega.{arith}
-use borrow.Author.Tests.{leb_true}
+use borrow.Author.Tests.{leb-true}
 use lib.ListN.{length}
 use Rattle.words.specs.Parts.{Same, splice_same}
 use Rattle.words.specs.Splice.{splice, length-splice}
@@ -34,7 +34,7 @@ cells_still {s} {s₁} {from} {to} ns p noted =
 -- a take that fits has room
 pub take-room : (h : Header) (v : Take) → fits h v ≡ true → 3 + 4 * length (notes_of h v) + 6 * length v.cells ≤ h.words
 unfolding fits
-take-room h v e = leb_true (3 + 4 * length (notes_of h v) + 6 * length v.cells) h.words e
+take-room h v e = leb-true (3 + 4 * length (notes_of h v) + 6 * length v.cells) h.words e
 
 -- its counts, in words
 pub record Counted (h : Header) (v : Take) (at middle end : ℕ) : Type 0 where

@@ -4,7 +4,7 @@ use mathlib.Core.List.{List, []}
 use mathlib.Core.Path.{◌≡◌, refl, sym, ap, ◌∙◌}
 use Prim.Native.Nat.{ℕ, zero, suc, ◌+◌, ◌-◌, ◌≤◌, ◌<◌}
 use native.Mathlib.Omega.{arith}
-use borrow.Author.Tests.{leb_true, lt_ltb, not-true, not-false}
+use borrow.Author.Tests.{leb-true, lt-ltb, not-true, not-false}
 use lib.Dec.{leb, ltb, eqb}
 use lib.ListN.{length, take, drop}
 use Rattle.model.specs.Lists.{gather}
@@ -105,7 +105,7 @@ module _ {s : List ℕ} {h : Header} {i : ℕ} (a : ShelfAsks s h i) where
         track_full t = answered_refused h s i answer 8 (number_is ∙ rw (sym f ∙ not-true o t)) (omega arith)
 
         pub track-room : not o ≡ false → words_used notes cells ≤ h.words
-        track-room t = leb_true (words_used notes cells) h.words (sym f ∙ not-false o t)
+        track-room t = leb-true (words_used notes cells) h.words (sym f ∙ not-false o t)
 
         pub track_asks : not o ≡ false → {table : List ℕ} → CountsOf answer table → RecordingAsks s h i t table beats notes cells
         track_asks t c = record {
@@ -136,7 +136,7 @@ from-inside (suc fuel) s at = go (from-inside fuel s (at + 8 + word32 s (at + 4)
     go : Inside (length s) (chunk_place (track_from fuel s (at + 8 + word32 s (at + 4)))) → Inside (length s) (chunk_place (track_from (suc fuel) s at))
     go ih = by_test (λ (c : Chunk). Inside (length s) (chunk_place c)) (chunk_there s at)
         (λ e. by_test (λ (c : Chunk). Inside (length s) (chunk_place c)) (eqb (word32 s at) MTrk)
-        (λ f. (omega arith, leb_true (at + 8 + word32 s (at + 4)) (length s) (and_right (leb (at + 8) (length s)) (leb (at + 8 + word32 s (at + 4)) (length s)) e))) (λ f. ih))
+        (λ f. (omega arith, leb-true (at + 8 + word32 s (at + 4)) (length s) (and_right (leb (at + 8) (length s)) (leb (at + 8 + word32 s (at + 4)) (length s)) e))) (λ f. ih))
         (λ e. tt)
 
 place_inside : (δ : ℕ) (s : List ℕ) → Inside (length s) (track_place δ s)
@@ -186,7 +186,7 @@ module _ (s : List ℕ) (i : ℕ) (file : List ℕ) where
     shelf_entered = record { header = rw e.same e.header; below = rw e.same e.below }
 
     entered_number : load_number s i file ≡ answer_number h (read_file h.delta file)
-    entered_number = load_is ∙ rw (e.header, lt_ltb i g.shelves e.below) (ap (λ (k : Header). answer_number k (read_file k.delta file)) (sym e.same))
+    entered_number = load_is ∙ rw (e.header, lt-ltb i g.shelves e.below) (ap (λ (k : Header). answer_number k (read_file k.delta file)) (sym e.same))
 
     entered_after : load_after s i file ≡ answer_after h s i (read_file h.delta file)
     unfolding load_after answer_after

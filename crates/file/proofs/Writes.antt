@@ -5,7 +5,7 @@ use mathlib.Core.List.{List, [], ◌∷◌}
 use Prim.Native.Nat.{ℕ, zero, suc, ◌+◌, ◌-◌, ◌≤◌, ◌<◌}
 use native.Mathlib.Nat.{not-suc-le-zero}
 use native.Mathlib.Omega.{arith}
-use borrow.Author.Tests.{lt_ltb, lt-leb, not-true, not-false}
+use borrow.Author.Tests.{lt-ltb, lt-leb, not-true, not-false}
 use lib.Dec.{leb, ltb}
 use lib.ListN.{length, take, drop, length-append}
 use Rattle.words.specs.Splice.{splice}
@@ -86,7 +86,7 @@ module _ (s : List ℕ) (i : ℕ) (h : Header) (e : Entered s i h) (out : List �
   unfolding file_fits
   entered_number =
       number_is s i (length out)
-      ∙ rw (e.header, lt_ltb i (header_of s).shelves e.below)
+      ∙ rw (e.header, lt-ltb i (header_of s).shelves e.below)
       (ap (λ (g : Header). cond (sound_shelf g (shelf g s i)) (cond (leb (length (shelf_file s i)) (length out)) 0 15) 4) (sym e.same)
       ∙ ap (λ (f : List ℕ). cond (sound_shelf h (shelf h s i)) (cond (leb (length f) (length out)) 0 15) 4) (sym file_same))
 

@@ -4,7 +4,7 @@ use mathlib.Core.Bool.{Bool, true, false}
 use mathlib.Core.List.{List, [], ◌++◌}
 use Prim.Native.Nat.{ℕ, zero, suc, ◌+◌, ◌-◌, ◌*◌, ◌/◌, ◌%◌, ◌≤◌, ◌<◌}
 use native.Mathlib.Omega.{arith}
-use borrow.Author.Tests.{le_leb, lt-leb, eq_eqb, ne_eqb, leb_true}
+use borrow.Author.Tests.{le-leb, lt-leb, eq-eqb, ne_eqb, leb-true}
 use lib.Dec.{leb}
 use lib.ListN.{length, take, drop, replicate, length-append, length-replicate, length-drop, take-append-drop}
 use lib.Seq.{length-take-le, take_all}
@@ -38,7 +38,7 @@ module _ (s bytes : List ℕ) where
   pub split_done : length bytes ≡ 16 → {i k l r : ℕ} → i ≡ word32 bytes 0 → k ≡ word32 bytes 4 → l ≡ word32 bytes 8 → r ≡ word32 bytes 12
       → {t : List ℕ} {q : ℕ} → (q ≡ number s (split_call i k l r)) × (t ≡ after s (split_call i k l r)) → Changed s (split_of bytes) t q
   unfolding split_of with_words number_of session_after file_after
-  split_done e a b c d done = rw (eq_eqb (length bytes) 16 e, ← a, ← b, ← c, ← d) (record { number = done.0; session = done.1; file = refl })
+  split_done e a b c d done = rw (eq-eqb (length bytes) 16 e, ← a, ← b, ← c, ← d) (record { number = done.0; session = done.1; file = refl })
 
   pub join_wrong : (length bytes ≡ 12 → ⊥) → Changed s (join_of bytes) s 255
   unfolding join_of with_words
@@ -47,7 +47,7 @@ module _ (s bytes : List ℕ) where
   pub join-done : length bytes ≡ 12 → {i j k : ℕ} → i ≡ word32 bytes 0 → j ≡ word32 bytes 4 → k ≡ word32 bytes 8
       → {t : List ℕ} {q : ℕ} → (q ≡ number s (join_call i j k)) × (t ≡ after s (join_call i j k)) → Changed s (join_of bytes) t q
   unfolding join_of with_words number_of session_after file_after
-  join-done e a b c done = rw (eq_eqb (length bytes) 12 e, ← a, ← b, ← c) (record { number = done.0; session = done.1; file = refl })
+  join-done e a b c done = rw (eq-eqb (length bytes) 12 e, ← a, ← b, ← c) (record { number = done.0; session = done.1; file = refl })
 
   pub lay-short : length bytes < 8 → Changed s (lay_of bytes) s 255
   unfolding lay_of
@@ -62,7 +62,7 @@ module _ (s bytes : List ℕ) where
       → {t : List ℕ} {q : ℕ} → (q ≡ number s (lay_call i beats ws)) × (t ≡ after s (lay_call i beats ws)) → Changed s (lay_of bytes) t q
   unfolding lay_of number_of session_after file_after
   lay_done low whole a b c d done =
-      rw (le_leb 8 (length bytes) low, eq_eqb (length bytes % 4) 0 whole, ← a, ← b, ← c, ← d) (record { number = done.0; session = done.1; file = refl })
+      rw (le-leb 8 (length bytes) low, eq-eqb (length bytes % 4) 0 whole, ← a, ← b, ← c, ← d) (record { number = done.0; session = done.1; file = refl })
 
   pub load_short : length bytes < 4 → Changed s (load_of bytes) s 255
   unfolding load_of
@@ -74,7 +74,7 @@ module _ (s bytes : List ℕ) where
   unfolding load_of number_of session_after file_after
   load_done low {i} a {t} {q} done =
       let whole : take (length bytes - 4) (drop 4 bytes) ≡ drop 4 bytes = take_all (length bytes - 4) (drop 4 bytes) (omega (arith, length-drop 4 bytes)) in
-      rw (le_leb 4 (length bytes) low, ← a)
+      rw (le-leb 4 (length bytes) low, ← a)
       (record { number = done.0 ∙ ap (load_number s i) whole; session = done.1 ∙ ap (load_after s i) whole; file = refl })
 
 -- ---- write
@@ -84,7 +84,7 @@ file_fits_lem : (s : List ℕ) (i room : ℕ) → write_number s i room ≡ 0 �
 unfolding write_number write_questions file_fits
 file_fits_lem s i room e =
     let all = yes_all (write_questions s i room) (omega arith) e in
-    leb_true (length (shelf_file s i)) room all.1.1.1.0
+    leb-true (length (shelf_file s i)) room all.1.1.1.0
 
 module _ (s bytes : List ℕ) where
   pub write_wrong : (length bytes ≡ 4 → ⊥) → (out : List ℕ) → Wrote s (write_of bytes) out (record { number = 255; size = 0 })
@@ -96,7 +96,7 @@ module _ (s bytes : List ℕ) where
       → Wrote s (write_of bytes) out' (record { number = q; size = n })
   unfolding write_of with_words number_of file_after write_count write_output
   write_done e {i} a out room {out'} {q} {n} is_number is-count is-out =
-      rw (eq_eqb (length bytes) 4 e, ← a) (go (write_number s i (length out)) refl)
+      rw (eq-eqb (length bytes) 4 e, ← a) (go (write_number s i (length out)) refl)
     where
       go : (m : ℕ) → write_number s i (length out) ≡ m → Wrote s (write_frame i) out' (record { number = q; size = n })
       go zero m =
@@ -135,7 +135,7 @@ length_fresh h =
 pub open_right : (bytes : List ℕ) → length bytes ≡ 16 → (h : Header) → h.delta ≡ word32 bytes 0 → h.epsilon ≡ word32 bytes 4
     → h.shelves ≡ word32 bytes 8 → h.words ≡ word32 bytes 12 → open_of bytes ≡ open_frame h
 unfolding open_of with_words
-open_right bytes e h a b c d = rw (eq_eqb (length bytes) 16 e, ← a, ← b, ← c, ← d)
+open_right bytes e h a b c d = rw (eq-eqb (length bytes) 16 e, ← a, ← b, ← c, ← d)
 
 module _ (words : List ℕ) (held : ℕ) (whole : length words ≡ 8192) (within : held ≤ 8192) where
   -- the session is kept
@@ -166,7 +166,7 @@ module _ (words : List ℕ) (held : ℕ) (whole : length words ≡ 8192) (within
       given = length-take-le (session_length h) words (omega arith)
 
       yes : leb (session_length h) 8192 ≡ true
-      yes = le_leb (session_length h) 8192 fits
+      yes = le-leb (session_length h) 8192 fits
 
       pub open_kept : (q ≡ 0 → ⊥) → Opened words held (open_frame h) (p ++ drop (session_length h) words) (record { number = q; size = held })
       unfolding number_of session_after file_after opens

@@ -4,7 +4,7 @@ use mathlib.Core.Bool.{true, false, ◌&&◌}
 use mathlib.Core.List.{List, [], ◌∷◌}
 use Prim.Native.Nat.{ℕ, zero, suc, ◌+◌, ◌*◌, ◌/◌, ◌%◌, ◌≤◌, ◌<◌}
 use native.Mathlib.Omega.{arith}
-use borrow.Author.Tests.{le_leb, lt-leb, eq_eqb, ne_eqb, lt_ltb, le_ltb}
+use borrow.Author.Tests.{le-leb, lt-leb, eq-eqb, ne_eqb, lt-ltb, le-ltb}
 use lib.Dec.{leb, eqb}
 use lib.ListN.{length, get_or, set, take, drop, drop_of_length-le}
 use lib.Seq.{drop-cons}
@@ -49,7 +49,7 @@ module _ {line b₀ b : List ℕ} {i : ℕ} (h : Reads line b₀ b i) (more : i 
   reads_pair {a} {d} is-high is-low high low =
       let e = pair_cons line i (omega arith) in
       let f : every is_digit (drop (2 * i) line) ≡ every is_digit (drop (2 * (i + 1)) line) =
-      rw (e, ← is-high, ← is-low, lt_ltb a 16 high, lt_ltb d 16 low) in
+      rw (e, ← is-high, ← is-low, lt-ltb a 16 high, lt-ltb d 16 low) in
       record {
         within = omega arith;
         writes = writes-word (rw (e, ← is-high, ← is-low) at h.writes);
@@ -57,11 +57,11 @@ module _ {line b₀ b : List ℕ} {i : ℕ} (h : Reads line b₀ b i) (more : i 
       }
 
   high_wrong : {a : ℕ} → a ≡ digit_value (get_or line (2 * i) 0) → 16 ≤ a → every is_digit line ≡ false
-  high_wrong {a} is w = sym h.digits ∙ rw (pair_cons line i (omega arith), ← is, le_ltb a 16 w)
+  high_wrong {a} is w = sym h.digits ∙ rw (pair_cons line i (omega arith), ← is, le-ltb a 16 w)
 
   low_wrong : {d : ℕ} → d ≡ digit_value (get_or line (2 * i + 1) 0) → 16 ≤ d → every is_digit line ≡ false
   low_wrong {d} is w =
-      sym h.digits ∙ rw (pair_cons line i (omega arith), ← is, le_ltb d 16 w) (and_no (is_digit (get_or line (2 * i) 0)) false refl)
+      sym h.digits ∙ rw (pair_cons line i (omega arith), ← is, le-ltb d 16 w) (and_no (is_digit (get_or line (2 * i) 0)) false refl)
 
 -- ---- the result
 
@@ -103,4 +103,4 @@ all_read {line} {b₀} {b} {i} h large short even end =
     let yes : every is_digit line ≡ true = sym h.digits ∙ rw behind in
     let long : length (bytes_of line) ≡ length line / 2 = length-bytes_of (length line / 2) line (omega arith) in
     let made : b ≡ splice b₀ 0 (bytes_of line) = writes-done (rw behind at h.writes) in
-    rw (le_leb _ _ short, eq_eqb _ _ even, yes) (sym long, rw (made, ← long) (part-splice-written b₀ 0 (bytes_of line) (omega arith)), omega arith)
+    rw (le-leb _ _ short, eq-eqb _ _ even, yes) (sym long, rw (made, ← long) (part-splice-written b₀ 0 (bytes_of line) (omega arith)), omega arith)

@@ -4,7 +4,7 @@ use mathlib.Core.Bool.{Bool, true, false, cond}
 use mathlib.Core.List.{List, [], ◌∷◌, ◌++◌}
 use Prim.Native.Nat.{ℕ, ◌+◌, ◌-◌, ◌*◌, ◌≤◌, ◌<◌}
 use native.Mathlib.Omega.{arith}
-use borrow.Author.Tests.{eq_eqb, ne_eqb}
+use borrow.Author.Tests.{eq-eqb, ne_eqb}
 use lib.Dec.{eqb}
 use lib.ListN.{length, get_or, set, take, drop, length-append}
 use lib.Seq.{length-take-le, take_all}
@@ -80,19 +80,19 @@ opened_few {words} {held} {f} o = omega (arith, number_few (take held words) f, 
 module _ {c : ℕ} (bytes : List ℕ) where
   pub change_lay : c ≡ 2 → change_of c bytes ≡ lay_of bytes
   unfolding change_of
-  change_lay e = rw (eq_eqb c 2 e)
+  change_lay e = rw (eq-eqb c 2 e)
 
   pub change_split : c ≡ 3 → change_of c bytes ≡ split_of bytes
   unfolding change_of
-  change_split e = rw (ne_eqb c 2 (omega arith), eq_eqb c 3 e)
+  change_split e = rw (ne_eqb c 2 (omega arith), eq-eqb c 3 e)
 
   pub change_join : c ≡ 4 → change_of c bytes ≡ join_of bytes
   unfolding change_of
-  change_join e = rw (ne_eqb c 2 (omega arith), ne_eqb c 3 (omega arith), eq_eqb c 4 e)
+  change_join e = rw (ne_eqb c 2 (omega arith), ne_eqb c 3 (omega arith), eq-eqb c 4 e)
 
   pub change_load : c ≡ 6 → change_of c bytes ≡ load_of bytes
   unfolding change_of
-  change_load e = rw (ne_eqb c 2 (omega arith), ne_eqb c 3 (omega arith), ne_eqb c 4 (omega arith), eq_eqb c 6 e)
+  change_load e = rw (ne_eqb c 2 (omega arith), ne_eqb c 3 (omega arith), ne_eqb c 4 (omega arith), eq-eqb c 6 e)
 
   pub change_unknown : (c ≡ 2 → ⊥) → (c ≡ 3 → ⊥) → (c ≡ 4 → ⊥) → (c ≡ 6 → ⊥) → change_of c bytes ≡ malformed
   unfolding change_of
@@ -110,11 +110,11 @@ first_byte (c ∷ l) h = ap (call_of c) (sym (take_all (length (c ∷ l) - 1) l 
 module _ (frame : List ℕ) (some : 0 < length frame) where
   pub frame_open : get_or frame 0 0 ≡ 1 → frame_of frame ≡ open_of (behind frame)
   unfolding call_of
-  frame_open e = first_byte frame some ∙ rw (eq_eqb (get_or frame 0 0) 1 e)
+  frame_open e = first_byte frame some ∙ rw (eq-eqb (get_or frame 0 0) 1 e)
 
   pub frame_write : get_or frame 0 0 ≡ 5 → frame_of frame ≡ write_of (behind frame)
   unfolding call_of
-  frame_write e = first_byte frame some ∙ rw (ne_eqb (get_or frame 0 0) 1 (omega arith), eq_eqb (get_or frame 0 0) 5 e)
+  frame_write e = first_byte frame some ∙ rw (ne_eqb (get_or frame 0 0) 1 (omega arith), eq-eqb (get_or frame 0 0) 5 e)
 
   pub frame_change : (get_or frame 0 0 ≡ 1 → ⊥) → (get_or frame 0 0 ≡ 5 → ⊥) → frame_of frame ≡ change_of (get_or frame 0 0) (behind frame)
   unfolding call_of

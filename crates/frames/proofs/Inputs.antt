@@ -4,7 +4,7 @@ use mathlib.Core.List.{List, [], ◌∷◌, ◌++◌, append-nil, append_assoc}
 use Prim.Native.Nat.{ℕ, suc, ◌+◌, ◌-◌, ◌≤◌, ◌<◌}
 use native.Mathlib.Numerals.{add-one}
 use native.Mathlib.Omega.{arith}
-use borrow.Author.Tests.{ne_eqb, lt_ltb, le_ltb}
+use borrow.Author.Tests.{ne_eqb, lt-ltb, le-ltb}
 use lib.ListN.{length, get_or, set, take, drop, length-append, length-drop}
 use lib.Seq.{length-take-le, take-suc-set, take-suc, get_or-drop}
 use Rattle.words.specs.Splice.{splice, splice-append}
@@ -24,11 +24,11 @@ module _ (line : List ℕ) (n c : ℕ) (whole : length line ≡ 4001) where
   unfolding kept
   keep_more h =
       let long = length-take-le n line (omega arith) in
-      rw (add-one n, take-suc-set line n c (omega arith), lt_ltb (length (take n line)) 4001 (omega arith))
+      rw (add-one n, take-suc-set line n c (omega arith), lt-ltb (length (take n line)) 4001 (omega arith))
 
   pub keep-none : n ≤ 4001 → 4001 ≤ n → take n line ≡ kept (take n line) c
   unfolding kept
-  keep-none low h = let long = length-take-le n line (omega arith) in rw (le_ltb (length (take n line)) 4001 (omega arith))
+  keep-none low h = let long = length-take-le n line (omega arith) in rw (le-ltb (length (take n line)) 4001 (omega arith))
 
 -- ---- one byte
 

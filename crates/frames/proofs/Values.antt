@@ -4,7 +4,7 @@ use mathlib.Core.List.{List, [], ◌∷◌}
 use Prim.Native.Nat.{ℕ, ◌+◌, ◌-◌, ◌*◌, ◌≤◌, ◌<◌}
 use native.Mathlib.Numerals.{add-one}
 use native.Mathlib.Omega.{arith}
-use borrow.Author.Tests.{le_leb, lt-leb, lt_ltb, le_ltb}
+use borrow.Author.Tests.{le-leb, lt-leb, lt-ltb, le-ltb}
 use lib.ListN.{length, get_or, drop, drop_of_length-le}
 use lib.Seq.{drop-cons}
 use Rattle.words.specs.Splice.{splice}
@@ -20,27 +20,27 @@ module _ (c : ℕ) where
 
   pub value_figure : 48 ≤ c → c ≤ 57 → c - 48 ≡ digit_value c
   unfolding digit_value
-  value_figure low high = rw (le_leb 48 c low, le_leb c 57 high)
+  value_figure low high = rw (le-leb 48 c low, le-leb c 57 high)
 
   pub value_between : 57 < c → c < 65 → 16 ≡ digit_value c
   unfolding digit_value
-  value_between low high = rw (le_leb 48 c (omega arith), lt-leb c 57 low, lt-leb 65 c high)
+  value_between low high = rw (le-leb 48 c (omega arith), lt-leb c 57 low, lt-leb 65 c high)
 
   pub value_letter : 65 ≤ c → c ≤ 70 → c - 55 ≡ digit_value c
   unfolding digit_value
-  value_letter low high = rw (le_leb 48 c (omega arith), lt-leb c 57 (omega arith), le_leb 65 c low, le_leb c 70 high)
+  value_letter low high = rw (le-leb 48 c (omega arith), lt-leb c 57 (omega arith), le-leb 65 c low, le-leb c 70 high)
 
   pub value_above : 70 < c → 16 ≡ digit_value c
   unfolding digit_value
-  value_above low = rw (le_leb 48 c (omega arith), lt-leb c 57 (omega arith), le_leb 65 c (omega arith), lt-leb c 70 low)
+  value_above low = rw (le-leb 48 c (omega arith), lt-leb c 57 (omega arith), le-leb 65 c (omega arith), lt-leb c 70 low)
 
   pub small_digit : c < 10 → 48 + c ≡ digit_of c
   unfolding digit_of
-  small_digit h = rw (lt_ltb c 10 h)
+  small_digit h = rw (lt-ltb c 10 h)
 
   pub large_digit : 10 ≤ c → 55 + c ≡ digit_of c
   unfolding digit_of
-  large_digit h = rw (le_ltb c 10 h)
+  large_digit h = rw (le-ltb c 10 h)
 
 -- ---- digits written
 

@@ -10,7 +10,7 @@ use Rattle.std.proofs.Math.Nat.{mul-div_left, suc-mul}
 use native.Mathlib.Omega.{arith}
 use Rattle.std.proofs.Math.Dec.{eqb, ltb}
 use Rattle.std.proofs.Math.ListN.{length, length-append}
-use borrow.Author.Tests.{eqb-true, le_leb, leb-false, le_ltb, lt_ltb, ltb-false, ltb-true}
+use borrow.Author.Tests.{eqb-true, le-leb, leb-false, le-ltb, lt-ltb, ltb-false, ltb-true}
 use Rattle.model.specs.Binding.{Piece, bound, bound_next, end_of, fills, first_shown, go_on, line_notes, meet, opening, pieces, runs, stands_alone, start_of}
 use Rattle.model.specs.Histories.{Recording, recording_take}
 use Rattle.model.specs.Limits.{max_beats, max_delta}
@@ -42,14 +42,14 @@ use Rattle.session.proofs.Counts.{sides_between}
 module _ (δ : ℕ) (z : 0 < δ) where
   at-line : (k : ℕ) → line_sides δ (k * δ) ≡ 2 * k
   unfolding line_sides
-  at-line k = rw (mul-div_left k z, le_ltb (k * δ) (k * δ) (omega arith)) (omega arith)
+  at-line k = rw (mul-div_left k z, le-ltb (k * δ) (k * δ) (omega arith)) (omega arith)
 
   quotient : (k x : ℕ) → k * δ ≤ x → x < suc k * δ → x / δ ≡ k
   quotient k x a b = let c : k ≤ x / δ = (le-div_iff_mul-le z).1 a in let d : x / δ < suc k = (div-lt_iff_lt-mul z).1 b in omega arith
 
   in_beat : (k x : ℕ) → k * δ < x → x < suc k * δ → line_sides δ x ≡ 2 * k + 1
   unfolding line_sides
-  in_beat k x a b = rw (quotient k x (omega arith) b, lt_ltb (k * δ) x a) (omega arith)
+  in_beat k x a b = rw (quotient k x (omega arith) b, lt-ltb (k * δ) x a) (omega arith)
 
   -- at a line or behind it, and up to the next
   from-line : (k x : ℕ) → k * δ ≤ x → x ≤ suc k * δ → 2 * k ≤ line_sides δ x
@@ -242,5 +242,5 @@ module _ (H : Header) (len : ℕ) (r : InRange H len) (ws : List ℕ) (e : sound
       let R : Recording = record { beats = word ws 0; notes = notes_in ws } in
       let n : length (notes_of H (recording_take H.delta R)) ≡ word ws 1 = ap length (notes_again H r.some-ticks R given.notes_ok_lem) ∙ length_read (word ws 1) (drop 3 ws) in
       let c : length t.cells ≡ word ws 2 = unfold take_in in length-cells (word ws 2) (drop (3 + 4 * word ws 1) ws) in
-      le_leb (words_used (length (notes_of H (recording_take H.delta R))) (length (recording_take H.delta R).cells)) H.words
+      le-leb (words_used (length (notes_of H (recording_take H.delta R))) (length (recording_take H.delta R).cells)) H.words
       (omega (arith, n, c, cells_few, given.used_ok))

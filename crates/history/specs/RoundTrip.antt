@@ -6,7 +6,7 @@ use Rattle.std.proofs.Common.{◌∙◌, sym, arith}
 use Rattle.std.proofs.Math.Path.{ap}
 use Prim.Native.Nat.{◌<◌, ◌-◌, ℕ}
 use Rattle.std.proofs.Math.ListN.{length, take, replicate}
-use borrow.Author.Tests.{lt_ltb}
+use borrow.Author.Tests.{lt-ltb}
 use Rattle.words.specs.Parts.{part-splice-written}
 use Rattle.words.specs.Splice.{splice}
 use Rattle.model.specs.Histories.{Recording, recording_take}
@@ -59,7 +59,7 @@ module _ (s : List ℕ) (i : ℕ) (a : header_ok (header_of s) (length s) ≡ tr
     -- Loading it returns 0.
     pub load_back : load_number t j (shelf_file s i) ≡ 0
     unfolding load_number load_questions first_no file_questions
-    load_back = rw (b, lt_ltb j h.shelves below, read_there, fit)
+    load_back = rw (b, lt-ltb j h.shelves below, read_there, fit)
 
     after_is : load_after t j (shelf_file s i) ≡ put_shelf h t j (words_of h (recording_take h.delta (recording_in ws)))
     unfolding load_after loaded

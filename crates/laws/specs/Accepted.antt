@@ -6,7 +6,7 @@ use mathlib.Core.List.{List, [], ◌++◌, ◌∷◌}
 use Rattle.std.proofs.Common.{◌∙◌, ap}
 use Rattle.std.proofs.Math.Path.{refl}
 use native.Mathlib.Omega.{arith}
-use borrow.Author.Tests.{leb_true, ltb-true}
+use borrow.Author.Tests.{leb-true, ltb-true}
 use Rattle.model.specs.Histories.{recording_take}
 use Rattle.model.specs.Machine.{Call, join_call, lay_call, listed, open_call, split_call}
 use Rattle.model.specs.Questions.{beat_within, beats_ok, first_no, fits, list_ok, number, questions, reads, results, results_fit, shelves_ok, take_at, writes}
@@ -95,7 +95,7 @@ module _ (s : List ℕ) where
       record {
         shelf-below = (below (header_of s) c a.1.0).0;
         valid = (
-          leb_true beats 4096 (and_left (leb beats 4096) true a.1.1.0),
+          leb-true beats 4096 (and_left (leb beats 4096) true a.1.1.0),
           and_right (eqb (length ws % 4) 0) (notes_ok (header_of s).delta beats (listed beats ws).notes) a.1.1.1.0,
         );
         fit = and_left (fits (header_of s) r) true a.1.1.1.1.0;
@@ -114,7 +114,7 @@ module _ (s : List ℕ) where
         take_below = b.0;
         left_below = b.1.0;
         right-below = b.1.1.0;
-        within = leb_true k (take_at (header_of s) s i).beats a.1.1.1.1.0;
+        within = leb-true k (take_at (header_of s) s i).beats a.1.1.1.1.0;
         left_fit = and_left x (y && true) f;
         right_fit = and_left y true (and_right x (y && true) f);
       }
@@ -130,6 +130,6 @@ module _ (s : List ℕ) where
         first_below = b.0;
         second_below = b.1.0;
         result_below = b.1.1.0;
-        short = leb_true n 4096 (and_left (leb n 4096) true a.1.1.1.1.0);
+        short = leb-true n 4096 (and_left (leb n 4096) true a.1.1.1.1.0);
         fit = and_left (fits (header_of s) (join_takes (header_of s).delta (take_at (header_of s) s i) (take_at (header_of s) s j))) true a.1.1.1.1.1.0;
       }

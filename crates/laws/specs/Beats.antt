@@ -1,7 +1,7 @@
 -- Ticks, beats and lines.
 -- Assumes nothing.
 use Rattle.std.specs.Prelude.{false, true, ◌≡◌, ◌%◌, ◌*◌, ◌+◌, ◌-◌, ◌/◌, ◌<◌, ◌≤◌, suc, ℕ, ltb}
-use Rattle.std.proofs.Common.{◌∙◌, ap, add-zero, div-add-mod', div-mul-le_self, le-div_iff_mul-le, mod-lt, arith, lt_ltb, ltb-false, ltb-true}
+use Rattle.std.proofs.Common.{◌∙◌, ap, add-zero, div-add-mod', div-mul-le_self, le-div_iff_mul-le, mod-lt, arith, lt-ltb, ltb-false, ltb-true}
 use Rattle.std.proofs.Math.Nat.{div-eq_of_lt, lt-div-mul-add, mod-mod, mul-add-div_right, mul-add-mod_self_right}
 use Rattle.model.specs.Pieces.{first_beat, inside, inside_at}
 use Rattle.model.specs.Takes.{note_to}
@@ -17,7 +17,7 @@ high δ z s = let h = lt-div-mul-add {a = s} z in omega arith
 
 pub touch_line : (δ : ℕ) (n : Note) → inside δ n ≡ false → n.start / δ * δ < n.start → suc (n.start / δ) * δ ≤ n.end
 unfolding inside_at
-touch_line δ n e a = ltb-false n.end (suc (n.start / δ) * δ) (rw (lt_ltb (n.start / δ * δ) n.start a) at e)
+touch_line δ n e a = ltb-false n.end (suc (n.start / δ) * δ) (rw (lt-ltb (n.start / δ * δ) n.start a) at e)
 
 pub inside_low : (δ : ℕ) (n : Note) → inside δ n ≡ true → first_beat δ n * δ < n.start
 unfolding inside_at
@@ -48,4 +48,4 @@ inside-to δ z i n e =
     let b : n.end < suc (s / δ) * δ = ltb-true n.end (suc (s / δ) * δ) (and_right (ltb (s / δ * δ) s) _ e) in
     let d : s / δ * δ + s % δ ≡ s = div-add-mod' s δ in
     let m : s % δ < δ = mod-lt s z in
-    rw q (and_yes (lt_ltb (i * δ) (i * δ + s % δ) (omega arith)) (lt_ltb (i * δ + s % δ + (n.end - s)) (suc i * δ) (omega arith)))
+    rw q (and_yes (lt-ltb (i * δ) (i * δ + s % δ) (omega arith)) (lt-ltb (i * δ + s % δ + (n.end - s)) (suc i * δ) (omega arith)))

@@ -6,7 +6,7 @@ use Rattle.std.proofs.Math.Path.{ap, refl}
 use Rattle.std.proofs.Math.ListN.{drop, take}
 use Rattle.std.proofs.lemmas.List.{length-replicate}
 use Rattle.std.proofs.Math.Seq.{get_or-append_seam}
-use borrow.Author.Tests.{le_leb}
+use borrow.Author.Tests.{le-leb}
 use Rattle.model.specs.Histories.{Recording, history_take, history_words, pairs_of, recording_take, take_of}
 use Rattle.model.specs.Machine.{Call, Machine, accepted, fed, history, join_call, lay_call, listed, open_call, opened, recorded, split_call}
 use Rattle.model.specs.Questions.{after, fits, header_ok, number, put_all, questions, results, take_at, written}
@@ -28,7 +28,7 @@ step_as {n = n} {w = w} p q s = subst (λ (v : List ℕ). Step n v) (sym q) (sub
 
 module _ (H : Header) (v : 3 ≤ H.words) where
   empty_ok : HistoryOk H [] []
-  empty_ok = record { named = tt; short = omega arith; fit = unfold fits history_take notes_of in le_leb 3 H.words v }
+  empty_ok = record { named = tt; short = omega arith; fit = unfold fits history_take notes_of in le-leb 3 H.words v }
 
   all_empty : (n : ℕ) → All (HistoryOk H []) (replicate n [])
   all_empty zero = tt

@@ -7,7 +7,7 @@ use mathlib.Core.List.{List, [], ◌++◌, ◌∷◌}
 use Rattle.std.proofs.Math.Path.{refl, sym}
 use Rattle.std.proofs.Math.Dec.{eqb, ltb}
 use Rattle.std.proofs.Math.ListN.{length}
-use borrow.Author.Tests.{eq_eqb, eqb-false, eqb-true, le_leb, leb_true, lt_ltb, ltb-true, ne_eqb, not-true}
+use borrow.Author.Tests.{eq-eqb, eqb-false, eqb-true, le-leb, leb-true, lt-ltb, ltb-true, ne_eqb, not-true}
 use Rattle.model.specs.Binding.{fills, line_notes, opening}
 use Rattle.model.specs.Lists.{every, gather, keep}
 use Rattle.model.specs.Pieces.{first_beat, inside}
@@ -32,16 +32,16 @@ use Rattle.laws.specs.Solid.{Apart, Clear, Fine, Solid, beat_up, fine, fine_memo
 
 pub apart-before : (δ : ℕ) (c d : Cell) → Apart δ c d → cell_before c d ≡ true
 unfolding cell_before
-apart-before δ c d (lane_up a) = or_left (eqb c.lane d.lane && (ltb c.beat d.beat || eqb c.beat d.beat && ltb c.side d.side)) (lt_ltb c.lane d.lane a)
-apart-before δ c d (beat_up a b) = or_right (ltb c.lane d.lane) (and_yes (eq_eqb c.lane d.lane a) (or_left (eqb c.beat d.beat && ltb c.side d.side) (lt_ltb c.beat d.beat b)))
+apart-before δ c d (lane_up a) = or_left (eqb c.lane d.lane && (ltb c.beat d.beat || eqb c.beat d.beat && ltb c.side d.side)) (lt-ltb c.lane d.lane a)
+apart-before δ c d (beat_up a b) = or_right (ltb c.lane d.lane) (and_yes (eq-eqb c.lane d.lane a) (or_left (eqb c.beat d.beat && ltb c.side d.side) (lt-ltb c.beat d.beat b)))
 apart-before δ c d (side_up a b o p i) =
-    or_right (ltb c.lane d.lane) (and_yes (eq_eqb c.lane d.lane a) (or_right (ltb c.beat d.beat) (and_yes (eq_eqb c.beat d.beat b) (lt_ltb c.side d.side (omega arith)))))
+    or_right (ltb c.lane d.lane) (and_yes (eq-eqb c.lane d.lane a) (or_right (ltb c.beat d.beat) (and_yes (eq-eqb c.beat d.beat b) (lt-ltb c.side d.side (omega arith)))))
 
 apart_gap : (δ : ℕ) (c d : Cell) → fills δ c ≡ false → Apart δ c d → not (same_beat c d) || leb (c.after + d.before) δ ≡ true
 unfolding same_beat
 apart_gap δ c d f (lane_up a) = rw (ne_eqb c.lane d.lane (omega arith))
-apart_gap δ c d f (beat_up a b) = rw (eq_eqb c.lane d.lane a, ne_eqb c.beat d.beat (omega arith))
-apart_gap δ c d f (side_up a b o p i) = or_right (not (eqb c.lane d.lane && eqb c.beat d.beat)) (le_leb (c.after + d.before) δ (i f))
+apart_gap δ c d f (beat_up a b) = rw (eq-eqb c.lane d.lane a, ne_eqb c.beat d.beat (omega arith))
+apart_gap δ c d f (side_up a b o p i) = or_right (not (eqb c.lane d.lane && eqb c.beat d.beat)) (le-leb (c.after + d.before) δ (i f))
 
 pub open_filled : (δ : ℕ) (c : Cell) → opening c ≡ true → filled δ c ≡ false
 unfolding filled
@@ -52,8 +52,8 @@ unfolding partners
 pair_partners δ c d q =
     let b : d.before ≡ c.before + δ = q.before_is in
     let a : d.after + δ ≡ c.after = q.after_is in
-    and_yes (and_yes (and_yes (and_yes (and_yes (and_yes (eq_eqb c.lane d.lane (sym q.lane_same)) (eq_eqb c.beat d.beat (sym q.beat_same))) (pair_open δ c d q)) (rw (pair_close δ c d q)))
-    (eq_eqb d.before (c.before + δ) b)) (eq_eqb (d.after + δ) c.after a)) (eq_eqb c.velocity d.velocity (sym q.velocity_same))
+    and_yes (and_yes (and_yes (and_yes (and_yes (and_yes (eq-eqb c.lane d.lane (sym q.lane_same)) (eq-eqb c.beat d.beat (sym q.beat_same))) (pair_open δ c d q)) (rw (pair_close δ c d q)))
+    (eq-eqb d.before (c.before + δ) b)) (eq-eqb (d.after + δ) c.after a)) (eq-eqb c.velocity d.velocity (sym q.velocity_same))
 
 module _ (δ : ℕ) where
   near_single : (c e : Cell) → fills δ c ≡ false → filled δ e ≡ false → Apart δ c e → neighbours δ c e ≡ true
@@ -91,8 +91,8 @@ module _ (δ : ℕ) where
           → not (s && t) || cond o (leb (c.beat * δ + c.after) n.start) (leb (n.end + c.before) (suc c.beat * δ)) ≡ true
       go false t o a b e = refl
       go true false o a b e = refl
-      go true true true a b e = le_leb (c.beat * δ + c.after) n.start (w.behind (eqb-true n.lane c.lane a) (eqb-true (first_beat δ n) c.beat b) e)
-      go true true false a b e = le_leb (n.end + c.before) (suc c.beat * δ) (w.before (eqb-true n.lane c.lane a) (eqb-true (first_beat δ n) c.beat b) e)
+      go true true true a b e = le-leb (c.beat * δ + c.after) n.start (w.behind (eqb-true n.lane c.lane a) (eqb-true (first_beat δ n) c.beat b) e)
+      go true true false a b e = le-leb (n.end + c.before) (suc c.beat * δ) (w.before (eqb-true n.lane c.lane a) (eqb-true (first_beat δ n) c.beat b) e)
 
 pub parts-shelf : (H : Header) (beats : ℕ) (ns : List Note) (cs : List Cell) → beats ≤ 4096 → 3 + 4 * length ns + 6 * length cs ≤ H.words
     → chain_take H beats ns cs ≡ true
@@ -105,8 +105,8 @@ parts-shelf H beats ns cs b f e =
       past_head beats (length ns) (length cs) ns (gather cell_words cs ++ replicate k 0),
       read_cells_lem cs (replicate k 0),
       read_notes_lem ns (gather cell_words cs ++ replicate k 0),
-      le_leb beats 4096 b,
-      le_leb (3 + 4 * length ns + 6 * length cs) H.words f,
+      le-leb beats 4096 b,
+      le-leb (3 + 4 * length ns + 6 * length cs) H.words f,
       zeros k,
     ) e
 
@@ -125,7 +125,7 @@ module _ (H : Header) (z : 0 < H.delta) (le : H.epsilon ≤ H.delta) (t : Take) 
   -- the words of a solid take that fits are a sound shelf
   pub solid_chain : t.beats ≤ 4096 → fits H t ≡ true → chain_shelf H (words_of H t) ≡ true
   unfolding words_of fits
-  solid_chain b f = parts-shelf H t.beats (notes_of H t) t.cells b (leb_true (3 + 4 * length (notes_of H t) + 6 * length t.cells) H.words f) solid_parts
+  solid_chain b f = parts-shelf H t.beats (notes_of H t) t.cells b (leb-true (3 + 4 * length (notes_of H t) + 6 * length t.cells) H.words f) solid_parts
 
 -- ---- the parts of the test
 
@@ -159,8 +159,8 @@ parts H ws e =
     let y3 = and_left (d && f && g) h y4 in
     let y2 = and_left (d && f) g y3 in
     record {
-      beats_ok = leb_true (word ws 0) 4096 (and_left a b (and_left (a && b) c x));
-      used_ok = leb_true used H.words (and_right a b (and_left (a && b) c x));
+      beats_ok = leb-true (word ws 0) 4096 (and_left a b (and_left (a && b) c x));
+      used_ok = leb-true used H.words (and_right a b (and_left (a && b) c x));
       zeros_ok = and_right (a && b) c x;
       notes_ok_lem = and_left d f y2;
       cells_ok = and_right d f y2;
@@ -226,7 +226,7 @@ module _ (δ : ℕ) where
       let y = eqb (d.after + δ) c.after in
       let e6 = and_left (q && o && p && x && y) (eqb c.velocity d.velocity) e in
       let a : d.after + δ ≡ c.after = eqb-true (d.after + δ) c.after (and_right (q && o && p && x) y e6) in
-      and_yes (and_right q o (and_left (q && o) p (and_left (q && o && p) x (and_left (q && o && p && x) y e6)))) (le_leb δ c.after (omega arith))
+      and_yes (and_right q o (and_left (q && o) p (and_left (q && o && p) x (and_left (q && o && p && x) y e6)))) (le-leb δ c.after (omega arith))
 
   not_filled : (c d : Cell) → neighbours δ c d ≡ true → fills δ c ≡ false → filled δ d ≡ false
   not_filled c d e f = go (fills δ c) (filled δ d) f refl (near_next c d e)
@@ -249,7 +249,7 @@ module _ (δ : ℕ) where
   unfolding same_beat
   near_gap c d e l b f =
       let r = near_next c d e in
-      leb_true (c.after + d.before) δ (rw (f, not_filled c d e f, eq_eqb c.lane d.lane l, eq_eqb c.beat d.beat b) at r)
+      leb-true (c.after + d.before) δ (rw (f, not_filled c d e f, eq-eqb c.lane d.lane l, eq-eqb c.beat d.beat b) at r)
 
   near_apart : (c d : Cell) → c.side ≤ 1 → d.side ≤ 1 → neighbours δ c d ≡ true → Apart δ c d
   unfolding cell_before
@@ -340,8 +340,8 @@ module _ (δ : ℕ) where
   pub clear_of : (n : Note) (c : Cell) → clear δ n c ≡ true → Clear δ n c
   unfolding clear
   clear_of n c e = record {
-    behind = λ l b o. leb_true (c.beat * δ + c.after) n.start (rw (eq_eqb n.lane c.lane l, eq_eqb (first_beat δ n) c.beat b, o) at e);
-    before = λ l b o. leb_true (n.end + c.before) (suc c.beat * δ) (rw (eq_eqb n.lane c.lane l, eq_eqb (first_beat δ n) c.beat b, o) at e);
+    behind = λ l b o. leb-true (c.beat * δ + c.after) n.start (rw (eq-eqb n.lane c.lane l, eq-eqb (first_beat δ n) c.beat b, o) at e);
+    before = λ l b o. leb-true (n.end + c.before) (suc c.beat * δ) (rw (eq-eqb n.lane c.lane l, eq-eqb (first_beat δ n) c.beat b, o) at e);
   }
 
 -- ---- the take

@@ -9,7 +9,7 @@ use Prim.Native.Nat.{◌*◌, ◌+◌, ◌-◌, ◌<◌, ◌≤◌, suc, zero, �
 use Rattle.std.proofs.Math.Decide.{ℕ_discrete}
 use Rattle.std.proofs.Math.Dec.{eqb}
 use Rattle.std.proofs.Math.ListN.{length}
-use borrow.Author.Tests.{eq_eqb, eqb-true, le_leb, leb_true, lt_ltb, ltb-true, ne_eqb}
+use borrow.Author.Tests.{eq-eqb, eqb-true, le-leb, leb-true, lt-ltb, ltb-true, ne_eqb}
 use Rattle.model.specs.Binding.{bound, bound_next, fills, go_on, line_notes, meet, stands_alone}
 use Rattle.model.specs.Lists.{cons_if, keep}
 use Rattle.model.specs.Pieces.{first_beat}
@@ -272,7 +272,7 @@ module _ (H : Header) (k : ℕ) where
     where
       go : eqb (d.beat - k) (suc (c.beat - k)) ≡ eqb d.beat (suc c.beat)
       go = elim (ℕ_discrete d.beat (suc c.beat)) [
-        | yes e ↦ eq_eqb (d.beat - k) (suc (c.beat - k)) (omega arith) ∙ sym (eq_eqb d.beat (suc c.beat) e)
+        | yes e ↦ eq-eqb (d.beat - k) (suc (c.beat - k)) (omega arith) ∙ sym (eq-eqb d.beat (suc c.beat) e)
         | no e ↦ ne_eqb (d.beat - k) (suc (c.beat - k)) (omega arith) ∙ sym (ne_eqb d.beat (suc c.beat) e)
       ]
 
@@ -310,10 +310,10 @@ pub record Less (H : Header) (t u : Take) : Type 0 where
 
 module _ (H : Header) (z : 0 < H.delta) (le : H.epsilon ≤ H.delta) (t : Take) (s : Solid H.delta t) (k : ℕ) where
   down_edge : Edge (λ b. ltb b k)
-  down_edge = down (λ b e. let h : suc b < k = ltb-true (suc b) k e in lt_ltb b k (omega arith))
+  down_edge = down (λ b e. let h : suc b < k = ltb-true (suc b) k e in lt-ltb b k (omega arith))
 
   up_edge : Edge (λ b. leb k b)
-  up_edge = up (λ b e. let h : k ≤ b = leb_true k b e in le_leb k (suc b) (omega arith))
+  up_edge = up (λ b e. let h : k ≤ b = leb-true k b e in le-leb k (suc b) (omega arith))
 
   left_cells_lem : (split_left H.delta k t).cells ≡ keep (λ c. ltb c.beat k) t.cells
   unfolding split_left left_of
@@ -352,7 +352,7 @@ module _ (H : Header) (z : 0 < H.delta) (le : H.epsilon ≤ H.delta) (t : Take) 
       let ki = keep (λ (n : Note). leb k (first_beat H.delta n)) t.inner in
       let wu : line_notes H u.cells ≡ walk H false u.cells = line_walk H le (solid_right H.delta z t s k).cells_pieced in
       let wt : line_notes H t.cells ≡ walk H false t.cells = line_walk H le s.cells_pieced in
-      let m : length (walk H false u.cells) ≡ length (walk H false kc) = rw right_cells_lem (walk-back H k kc false (all_imp (λ c. leb k c.beat ≡ true) (λ c. k ≤ c.beat) kc (λ c. leb_true k c.beat) (all-kept (λ c. leb k c.beat) t.cells))) in
+      let m : length (walk H false u.cells) ≡ length (walk H false kc) = rw right_cells_lem (walk-back H k kc false (all_imp (λ c. leb k c.beat ≡ true) (λ c. k ≤ c.beat) kc (λ c. leb-true k c.beat) (all-kept (λ c. leb k c.beat) t.cells))) in
       let a : length (walk H false kc) ≤ length (walk H false t.cells) = fewer H z le (λ b. leb k b) up_edge s.cells_pieced s.cells-apart in
       let b : length u.inner ≡ length ki = rw right-inner (length-map (λ n. note_to H.delta (first_beat H.delta n - k) n) ki) in
       let d : length ki ≤ length t.inner = length-keep (λ n. leb k (first_beat H.delta n)) t.inner in
@@ -368,10 +368,10 @@ module _ (H : Header) (z : 0 < H.delta) (le : H.epsilon ≤ H.delta) (t : Take) 
 less_fits : (H : Header) (t u : Take) → Less H t u → fits H u ≡ true → fits H t ≡ true
 unfolding fits
 less_fits H t u l e =
-    let h : 3 + 4 * length (notes_of H u) + 6 * length u.cells ≤ H.words = leb_true (3 + 4 * length (notes_of H u) + 6 * length u.cells) H.words e in
+    let h : 3 + 4 * length (notes_of H u) + 6 * length u.cells ≤ H.words = leb-true (3 + 4 * length (notes_of H u) + 6 * length u.cells) H.words e in
     let a = l.fewer_notes in
     let b = l.fewer_cells in
-    le_leb (3 + 4 * length (notes_of H t) + 6 * length t.cells) H.words (omega arith)
+    le-leb (3 + 4 * length (notes_of H t) + 6 * length t.cells) H.words (omega arith)
 
 module _ (H : Header) (z : 0 < H.delta) (le : H.epsilon ≤ H.delta) (ws : List ℕ) (e : sound_shelf H ws ≡ true) where
   -- a sound shelf's take fits
@@ -381,7 +381,7 @@ module _ (H : Header) (z : 0 < H.delta) (le : H.epsilon ≤ H.delta) (ws : List 
       let u : 3 + 4 * word ws 1 + 6 * word ws 2 ≤ H.words = sound_used H z ws e in
       let a : length (notes_of H (take_in H.delta ws)) ≡ word ws 1 = ap length (sound-notes H z ws e) ∙ length_read (word ws 1) (drop 3 ws) in
       let b : length (take_in H.delta ws).cells ≡ word ws 2 = unfold take_in in length-cells (word ws 2) (drop (3 + 4 * word ws 1) ws) in
-      le_leb (3 + 4 * length (notes_of H (take_in H.delta ws)) + 6 * length (take_in H.delta ws).cells) H.words (omega arith)
+      le-leb (3 + 4 * length (notes_of H (take_in H.delta ws)) + 6 * length (take_in H.delta ws).cells) H.words (omega arith)
 
   -- question 8 is never answered no for a split of a sound shelf
   pub split_fits : (k : ℕ) → fits H (split_left H.delta k (take_in H.delta ws)) && fits H (split_right H.delta k (take_in H.delta ws)) ≡ true

@@ -1,8 +1,8 @@
 -- The notes of the cells of some beats, against the notes of all cells: one law for whatever cuts notes at a line.
 -- Assumes nothing.
 use Rattle.std.specs.Prelude.{Bool, ◌&&◌, ◌||◌, ◌≡◌, ◌*◌, ◌<◌, ◌≤◌, suc, ℕ}
-use Rattle.std.proofs.Math.Bool.{cond, false, or_false, true}
-use Rattle.std.proofs.Common.{true≢false, ◌∙◌, ap, sym, arith, eq_eqb, eqb-true, ne_eqb}
+use Rattle.std.proofs.Math.Bool.{cond, false, or-false, true}
+use Rattle.std.proofs.Common.{true≢false, ◌∙◌, ap, sym, arith, eq-eqb, eqb-true, ne_eqb}
 use mathlib.Core.List.{List, [], ◌++◌, ◌∷◌}
 use Rattle.std.proofs.Math.Path.{refl}
 use Rattle.model.specs.Binding.{bound, bound_next, end_of, fills, go_on, meet, opening, stands_alone, start_of}
@@ -162,7 +162,7 @@ module _ (H : Header) (beats : ℕ) (z : 0 < H.delta) (le : H.epsilon ≤ H.delt
       go true e (h ∷ hs) t u = made (joined n h) hs t (u ∙ rw (sym f.alone-last ∙ f.steady o e)) refl refl refl
       go false e ns t u =
           made n ns (t ∙ rw (or_right (stands_alone H x) {b = true} refl))
-          (u ∙ rw (or_false (stands_alone H x), f.alone-last) (cons_cond (stands_alone H c) ns)) refl refl refl
+          (u ∙ rw (or-false (stands_alone H x), f.alone-last) (cons_cond (stands_alone H c) ns)) refl refl refl
         where
           cons_cond : (a : Bool) (ns : List Note) → cond a (n ∷ ns) ns ≡ cons_if a n ns
           cons_cond true ns = refl
@@ -188,7 +188,7 @@ module _ (H : Header) (beats : ℕ) (z : 0 < H.delta) (le : H.epsilon ≤ H.delt
   seam c x cs n r rs f e =
       let t : meet x r ≡ true = next_opens x r rs e in
       let w = meets H z le (λ b. true) every_beat x r t in
-      let o = by_piece Opens tt (λ c x cs rest n f k ih. front_opened c x cs rest n f k) f.behind (eq_eqb r.side 0 w.opens_it) in
+      let o = by_piece Opens tt (λ c x cs rest n f k ih. front_opened c x cs rest n f k) f.behind (eq-eqb r.side 0 w.opens_it) in
       let s : start_of H.delta r ≡ end_of H.delta x = meet-line H.delta z x r t in (
         o.0,
         o.1,

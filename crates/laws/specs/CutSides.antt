@@ -8,7 +8,7 @@ use Rattle.std.proofs.Math.Path.{ap, refl, sym}
 use Prim.Native.Nat.{◌*◌, ◌-◌, ◌<◌, ◌≤◌, suc, ℕ}
 use Rattle.std.proofs.Math.Decide.{dec_le}
 use Rattle.std.proofs.Math.Dec.{ltb}
-use borrow.Author.Tests.{eq_eqb, leb-false, leb_true, ltb-false, ltb-true}
+use borrow.Author.Tests.{eq-eqb, leb-false, leb-true, ltb-false, ltb-true}
 use Rattle.model.specs.Binding.{bound_next, go_on, opening, stands_alone}
 use Rattle.model.specs.Lists.{cons_if}
 use Rattle.model.specs.declared.Cell.{Cell}
@@ -77,7 +77,7 @@ module _ (H : Header) (beats : ℕ) (z : 0 < H.delta) (le : H.epsilon ≤ H.delt
       let w = seam H beats z le (λ b. ltb b k) (Found at (k - 1) 1) c x cs n r rs f e in
       let s = w.2 in
       rw s.behind.held (elim (dec_le (suc r.beat) k) [
-        | yes h ↦ longer w.0 s.one_lane (rw s.behind.held at (ih (eq_eqb r.side 0 s.opens) h))
+        | yes h ↦ longer w.0 s.one_lane (rw s.behind.held at (ih (eq-eqb r.side 0 s.opens) h))
         | no h ↦ goes x (left_found s (omega arith)) (f.steady o e)
       ])
     where
@@ -107,7 +107,7 @@ module _ (H : Header) (beats : ℕ) (z : 0 < H.delta) (le : H.epsilon ≤ H.delt
       → (l : Note) × (left_by H k at m ≡ l ∷ []) × (left_by H k at (joined n m) ≡ joined n l ∷ [])
   left_both {c} {x} {cs} {n} {r} {rs} {m} {ms} s e u = elim (dec_le m.end (k * H.delta)) [
     | yes h ↦ (m, left_in H k at m h, left_in H k at (joined n m) h)
-    | no h ↦ cross h (rw s.behind.held at (ready s.front.behind (eq_eqb r.side 0 s.opens) (ltb-true r.beat k u)))
+    | no h ↦ cross h (rw s.behind.held at (ready s.front.behind (eq-eqb r.side 0 s.opens) (ltb-true r.beat k u)))
   ]
     where
       cut : Note
@@ -189,7 +189,7 @@ module _ (H : Header) (beats : ℕ) (z : 0 < H.delta) (le : H.epsilon ≤ H.delt
       → AtEnd H beats z le (λ b. leb k b) (Found at k 0) (stay_by H k at) c n
   right_end {c} {x} {cs} {rest} {n} f =
       record {
-        kept_end = λ e. let m = lines H.delta k c.beat (leb_true k c.beat e) in right_in H k at n (omega arith) f.spans.is_fair.order;
+        kept_end = λ e. let m = lines H.delta k c.beat (leb-true k c.beat e) in right_in H k at n (omega arith) f.spans.is_fair.order;
         dropped_end = λ e. let h : c.beat < k = leb-false k c.beat e in let m = lines H.delta (suc c.beat) k h in right_out H k at n (omega arith);
       }
 
@@ -199,12 +199,12 @@ module _ (H : Header) (beats : ℕ) (z : 0 < H.delta) (le : H.epsilon ≤ H.delt
   right_seam {c} {x} {cs} {n} {r} {rs} {m} {ms} s =
       record {
         kept-kept = λ e u.
-            let g = lines H.delta k c.beat (leb_true k c.beat e) in
+            let g = lines H.delta k c.beat (leb-true k c.beat e) in
             (m, right_in H k at m (omega arith) s.behind.order, right_in H k at (joined n m) (omega arith) (omega arith));
-        kept_dropped = λ e u. let h : k ≤ c.beat = leb_true k c.beat e in let i : r.beat < k = leb-false k r.beat u in absurd (omega arith);
+        kept_dropped = λ e u. let h : k ≤ c.beat = leb-true k c.beat e in let i : r.beat < k = leb-false k r.beat u in absurd (omega arith);
         dropped_kept = λ e u.
             let h : c.beat < k = leb-false k c.beat e in
-            let i : k ≤ r.beat = leb_true k r.beat u in
+            let i : k ≤ r.beat = leb-true k r.beat u in
             let l : suc c.beat * H.delta ≡ k * H.delta = ap (λ (b : ℕ). b * H.delta) (omega arith) in
             let o : at n.lane ≡ some r = ap at (sym s.one_lane ∙ s.behind.lane_is) ∙ s.front.behind.all_known.0 (omega arith) s.opens in (
               right_in H k at m (omega arith) s.behind.order,

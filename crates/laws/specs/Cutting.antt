@@ -9,7 +9,7 @@ use Rattle.std.proofs.Math.Path.{refl}
 use Rattle.std.proofs.Math.Decide.{ℕ_discrete}
 use native.Mathlib.Omega.{arith}
 use Rattle.std.proofs.Math.Dec.{eqb, leb, ltb}
-use borrow.Author.Tests.{eq_eqb, eqb-true, le_leb, le_ltb, leb-false, leb_true, lt-leb, lt_ltb, ltb-false, ltb-true, ne_eqb}
+use borrow.Author.Tests.{eq-eqb, eqb-true, le-leb, le-ltb, leb-false, leb-true, lt-leb, lt-ltb, ltb-false, ltb-true, ne_eqb}
 use Rattle.model.specs.Binding.{opening, stands_alone}
 use Rattle.model.specs.Lists.{cons_if, gather}
 use Rattle.model.specs.declared.Cell.{Cell}
@@ -30,11 +30,11 @@ cut_by line before behind across at n = cond (leb n.end line) (before n) (cond (
 module _ (line : ℕ) (before behind : Note → List Note) (across : Note → Option Cell → List Note) (at : ℕ → Option Cell) (n : Note) where
   pub by_before : n.end ≤ line → cut_by line before behind across at n ≡ before n
   unfolding cut_by
-  by_before h = rw (le_leb n.end line h)
+  by_before h = rw (le-leb n.end line h)
 
   pub by_behind : line < n.end → line ≤ n.start → cut_by line before behind across at n ≡ behind n
   unfolding cut_by
-  by_behind h i = rw (lt-leb n.end line h, le_leb line n.start i)
+  by_behind h i = rw (lt-leb n.end line h, le-leb line n.start i)
 
   pub by_across : line < n.end → n.start < line → cut_by line before behind across at n ≡ across n (at n.lane)
   unfolding cut_by
@@ -48,8 +48,8 @@ module _ (line : ℕ) (before behind : Note → List Note) (across : Note → Op
     where
       go : (t : Bool) → leb n.end line ≡ t → (u : Bool) → leb line n.start ≡ u
           → All P (cond t (before n) (cond u (behind n) (across n (at n.lane))))
-      go true e u i = f (leb_true n.end line e)
-      go false e true i = g (leb-false n.end line e) (leb_true line n.start i)
+      go true e u i = f (leb-true n.end line e)
+      go false e true i = g (leb-false n.end line e) (leb-true line n.start i)
       go false e false i = h (leb-false n.end line e) (leb-false line n.start i) (at n.lane)
 
 -- The note s ticks earlier.
@@ -140,13 +140,13 @@ earlier_more l m b c h e = go (ltb c.lane l) refl e
   where
     go : (t : Bool) → ltb c.lane l ≡ t → t || eqb c.lane l && ltb c.beat b ≡ true
         → ltb c.lane m || eqb c.lane m && ltb c.beat b ≡ true
-    go true p q = let x : c.lane < l = ltb-true c.lane l p in rw (lt_ltb c.lane m (omega arith))
+    go true p q = let x : c.lane < l = ltb-true c.lane l p in rw (lt-ltb c.lane m (omega arith))
     go false p q =
         let x : c.lane ≡ l = eqb-true c.lane l (and_left (eqb c.lane l) (ltb c.beat b) q) in
         let y : ltb c.beat b ≡ true = and_right (eqb c.lane l) (ltb c.beat b) q in
         elim (ℕ_discrete c.lane m) [
-          | yes i ↦ or_right (ltb c.lane m) (rw (eq_eqb c.lane m i) y)
-          | no i ↦ rw (lt_ltb c.lane m (omega arith))
+          | yes i ↦ or_right (ltb c.lane m) (rw (eq-eqb c.lane m i) y)
+          | no i ↦ rw (lt-ltb c.lane m (omega arith))
         ]
 
 skip-skip : (l m b : ℕ) (cs : List Cell) → l ≤ m → skip m b (skip l b cs) ≡ skip m b cs
@@ -221,7 +221,7 @@ module _ (δ : ℕ) where
   unfolding find_cell
   find_own [] s = tt
   find_own (c ∷ cs) s = (
-    rw (eq_eqb c.lane c.lane refl, eq_eqb c.beat c.beat refl, eq_eqb c.side c.side refl),
+    rw (eq-eqb c.lane c.lane refl, eq-eqb c.beat c.beat refl, eq-eqb c.side c.side refl),
     all_imp (λ d. Apart δ c d × (find_cell d.lane d.beat d.side cs ≡ some d)) (λ d. find_cell d.lane d.beat d.side (c ∷ cs) ≡ some d) cs
         (λ d a. find_other c d cs (is_behind c d a.0) ∙ a.1) (all_both (Apart δ c) (λ d. find_cell d.lane d.beat d.side cs ≡ some d) cs s.0 (find_own cs s.1)),
   )
@@ -251,7 +251,7 @@ module _ (δ : ℕ) where
 
   own_beat : (l b : ℕ) (c : Cell) → c.lane ≡ l → c.beat ≡ b → earlier l b c ≡ false
   unfolding earlier
-  own_beat l b c p q = rw (le_ltb c.lane l (omega arith)) (and_no (eqb c.lane l) (ltb c.beat b) (le_ltb c.beat b (omega arith)))
+  own_beat l b c p q = rw (le-ltb c.lane l (omega arith)) (and_no (eqb c.lane l) (ltb c.beat b) (le-ltb c.beat b (omega arith)))
 
   -- A cell that lies before another, and not before its beat, is of its beat.
   same_beat : (c d : Cell) → Behind c d → earlier d.lane d.beat c ≡ false → (c.lane ≡ d.lane) × (c.beat ≡ d.beat)
@@ -265,7 +265,7 @@ module _ (δ : ℕ) where
           let x : d.lane ≤ c.lane = ltb-false c.lane d.lane p in
           let y = a.lane-from in
           let l : c.lane ≡ d.lane = omega arith in
-          let u : d.beat ≤ c.beat = ltb-false c.beat d.beat (rw (eq_eqb c.lane d.lane l) at q) in
+          let u : d.beat ≤ c.beat = ltb-false c.beat d.beat (rw (eq-eqb c.lane d.lane l) at q) in
           let v : c.beat ≤ d.beat = a.beat_from l in
           (l, omega arith)
 
@@ -291,7 +291,7 @@ module _ (δ : ℕ) where
       go d a n ih false e =
           let w = same_beat c d a e in
           let x = a.sides w.0 w.1 in
-          record { closing_seen = λ f. rw (e, skip, eq_eqb c.side 0 x.0) (n w.0 w.1); opening_seen = λ f. absurd (omega arith) }
+          record { closing_seen = λ f. rw (e, skip, eq-eqb c.side 0 x.0) (n w.0 w.1); opening_seen = λ f. absurd (omega arith) }
 
   -- looked for from the beat on
   pub closing_found : (b : ℕ) (cs : List Cell) → Pairs (Apart δ) cs → All (Found (λ l. closing_cell (skip l b cs)) b 1) cs

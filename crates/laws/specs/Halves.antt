@@ -9,7 +9,7 @@ use Rattle.std.proofs.Math.Path.{ap, ap₂, refl, sym}
 use Rattle.std.proofs.Math.Nat.{add-mul}
 use native.Mathlib.Omega.{arith}
 use Rattle.std.proofs.Math.Dec.{leb, ltb}
-use borrow.Author.Tests.{leb-false, leb_true, ltb-false, ltb-true}
+use borrow.Author.Tests.{leb-false, leb-true, ltb-false, ltb-true}
 use Rattle.model.specs.Binding.{end_of, line_notes, opening, stands_alone, start_of}
 use Rattle.model.specs.Lists.{cons_if, gather, keep}
 use Rattle.model.specs.Pieces.{first_beat, inside}
@@ -183,7 +183,7 @@ module _ (H : Header) (z : 0 < H.delta) (le : H.epsilon ≤ H.delta) (t : Take) 
         go : (b : Bool) → leb k (first_beat H.delta n) ≡ b → right_of (first_beat H.delta) (note_to H.delta) k ns ≡ gather (right_by H k at) ns
             → map to (cons_if b n (keep (λ n. leb k (first_beat H.delta n)) ns)) ≡ right_by H k at n ++ gather (right_by H k at) ns
         go true e ih =
-            let l : k ≤ first_beat H.delta n = leb_true k (first_beat H.delta n) e in
+            let l : k ≤ first_beat H.delta n = leb-true k (first_beat H.delta n) e in
             let h = inner-behind n i.0 l in
             let w : n.start < n.end = v.0 in
             rw (by_behind (k * H.delta) (λ n. []) (λ n. back H k n ∷ []) (cross_right H k) at n (omega arith) h)
@@ -206,7 +206,7 @@ module _ (H : Header) (z : 0 < H.delta) (le : H.epsilon ≤ H.delta) (t : Take) 
     right-lines a =
         let kept = keep (λ (c : Cell). leb k c.beat) t.cells in
         line_walk H le (solid_right H.delta z t s k).cells_pieced
-        ∙ walk-earlier H k kept false (all_imp (λ c. leb k c.beat ≡ true) (λ c. k ≤ c.beat) kept (λ c. leb_true k c.beat) (all-kept (λ c. leb k c.beat) t.cells))
+        ∙ walk-earlier H k kept false (all_imp (λ c. leb k c.beat ≡ true) (λ c. k ≤ c.beat) kept (λ c. leb-true k c.beat) (all-kept (λ c. leb k c.beat) t.cells))
         ∙ ap (map (back H k))
         (walk-keep H t.beats z le (λ b. leb k b) (Found at k 0) (stay_by H k at) (right_cuts H t.beats z le k at) (cells_are (λ b. leb k b) (Found at k 0) a))
         ∙ map-gather (back H k) (stay_by H k at) (walk H false t.cells)

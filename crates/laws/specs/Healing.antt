@@ -9,7 +9,7 @@ use Prim.Native.Nat.{◌*◌, ◌+◌, ◌-◌, ◌/◌, ◌<◌, ◌≤◌, suc
 use Rattle.std.proofs.Math.Decide.{dec_le}
 use native.Mathlib.Omega.{arith}
 use Rattle.std.proofs.Math.Dec.{leb}
-use borrow.Author.Tests.{eq_eqb, le_leb, leb-false, leb_true, lt-leb, ltb-true}
+use borrow.Author.Tests.{eq-eqb, le-leb, leb-false, leb-true, lt-leb, ltb-true}
 use Rattle.model.specs.Binding.{Piece, bound, bound_next, end_of, fills, first_shown, line_notes, meet, pieces, runs, stands_alone, start_of}
 use Rattle.model.specs.Histories.{Recording, recording_take}
 use Rattle.model.specs.Lists.{cons_if, count_from, gather, keep}
@@ -71,11 +71,11 @@ module _ (H : Header) (z : 0 < H.delta) (n : Note) where
       → bound_next H (close_c b) (rest k (suc b) ++ cs) ≡ true
   unfolding bound_next cells_in_beat meet
   bound_next_lem k b cs h l =
-      rw (le_leb n.start (suc b * H.delta) (omega arith), bound_same b h l, eq_eqb n.lane n.lane refl, eq_eqb (suc b) (suc b) refl)
+      rw (le-leb n.start (suc b * H.delta) (omega arith), bound_same b h l, eq-eqb n.lane n.lane refl, eq-eqb (suc b) (suc b) refl)
 
   fills_yes : (b : ℕ) → suc b * H.delta ≤ n.end → fills H.delta (open_c b) ≡ true
   unfolding fills cell_at
-  fills_yes b h = le_leb H.delta (n.end - b * H.delta) (omega arith)
+  fills_yes b h = le-leb H.delta (n.end - b * H.delta) (omega arith)
 
   fills_no : (b : ℕ) → n.end < suc b * H.delta → fills H.delta (open_c b) ≡ false
   unfolding fills cell_at
@@ -91,18 +91,18 @@ module _ (H : Header) (z : 0 < H.delta) (n : Note) where
         go : (t u : Bool) → leb n.start (b * H.delta) ≡ t → leb (suc b * H.delta) n.end ≡ u
             → Healed (pieces H left (rest 0 b ++ cs)) (from b) (runs (pieces H false cs))
         go true true e g =
-            let gt : suc b * H.delta ≤ n.end = leb_true (suc b * H.delta) n.end g in
+            let gt : suc b * H.delta ≤ n.end = leb-true (suc b * H.delta) n.end g in
             let af : n.end - suc b * H.delta ≡ 0 = omega arith in
-            let le : n.start ≤ b * H.delta = leb_true n.start (b * H.delta) e in
+            let le : n.start ≤ b * H.delta = leb-true n.start (b * H.delta) e in
             rw (e, g, step_fill H (open_c b) (close_c b) cs left (fills_yes b gt) refl refl, fresh_free H (close_c b) cs refl af f)
             (last_piece _ _ _ (and_yes (open_held b left le q) (or_left false (close_alone H (close_c b) refl af))) refl (note_same refl refl (omega arith) refl))
         go true false e g =
             let gt : n.end < suc b * H.delta = leb-false (suc b * H.delta) n.end g in
-            let le : n.start ≤ b * H.delta = leb_true n.start (b * H.delta) e in
+            let le : n.start ≤ b * H.delta = leb-true n.start (b * H.delta) e in
             rw (e, g, step_single H (open_c b) cs left (fills_no b gt), open_free H (open_c b) cs refl)
             (last_piece _ _ _ (or_left false (open_held b left le q)) refl (note_same refl refl (omega arith) refl))
         go false true e g =
-            let gt : suc b * H.delta ≤ n.end = leb_true (suc b * H.delta) n.end g in
+            let gt : suc b * H.delta ≤ n.end = leb-true (suc b * H.delta) n.end g in
             let af : n.end - suc b * H.delta ≡ 0 = omega arith in
             rw (e, g, step_single H (close_c b) cs left (not_open H.delta (close_c b) refl), fresh_free H (close_c b) cs refl af f)
             (last_piece _ _ _ (or_left false (or_left left (close_alone H (close_c b) refl af))) refl (note_same refl (omega arith) (omega arith) refl))
@@ -117,13 +117,13 @@ module _ (H : Header) (z : 0 < H.delta) (n : Note) where
             → Healed (pieces H true (rest k (suc b) ++ cs)) (from (suc b)) (runs (pieces H false cs))
             → Healed (pieces H left (rest (suc k) b ++ cs)) (from b) (runs (pieces H false cs))
         go true e ih =
-            let le : n.start ≤ b * H.delta = leb_true n.start (b * H.delta) e in
+            let le : n.start ≤ b * H.delta = leb-true n.start (b * H.delta) e in
             let gt : suc b * H.delta < n.end = omega arith in
-            rw (e, le_leb (suc b * H.delta) n.end (omega arith), step_fill H (open_c b) (close_c b) (rest k (suc b) ++ cs) left (fills_yes b (omega arith)) refl refl, bound_next_lem k b cs h gt)
+            rw (e, le-leb (suc b * H.delta) n.end (omega arith), step_fill H (open_c b) (close_c b) (rest k (suc b) ++ cs) left (fills_yes b (omega arith)) refl refl, bound_next_lem k b cs h gt)
             (more_piece _ _ _ _ _ (and_yes (open_held b left le q) (or_right (stands_alone H (close_c b)) refl)) refl ih refl)
         go false e ih =
             let gt : suc b * H.delta < n.end = omega arith in
-            rw (e, le_leb (suc b * H.delta) n.end (omega arith), step_single H (close_c b) (rest k (suc b) ++ cs) left (not_open H.delta (close_c b) refl), bound_next_lem k b cs h gt)
+            rw (e, le-leb (suc b * H.delta) n.end (omega arith), step_single H (close_c b) (rest k (suc b) ++ cs) left (not_open H.delta (close_c b) refl), bound_next_lem k b cs h gt)
             (more_piece _ _ _ _ _ (or_right (stands_alone H (close_c b) || left) refl) refl ih (note_same refl (omega arith) refl refl))
 
 -- ---- a whole note, and a recording
@@ -145,7 +145,7 @@ module _ (H : Header) (z : 0 < H.delta) where
   start_same s c h = go (leb s c) refl
     where
       go : (b : Bool) → leb s c ≡ b → cond b c s ≡ s
-      go true e = let l : s ≤ c = leb_true s c e in omega arith
+      go true e = let l : s ≤ c = leb-true s c e in omega arith
       go false e = refl
 
   -- one that touches a line goes in as a whole
@@ -181,7 +181,7 @@ module _ (H : Header) (z : 0 < H.delta) where
       go : (k : ℕ) (t : Bool) → leb n.start (n.start / H.delta * H.delta) ≡ t
           → Fresh (gather (cells_in_beat H.delta n) (count_from (suc k) (n.start / H.delta)) ++ cs)
       go k true g = rw g (λ o. let ls : n.start / H.delta * H.delta ≤ n.start = low H.delta n.start in omega arith)
-      go k false g = rw (g, le_leb (suc (n.start / H.delta) * H.delta) n.end (touch_line H.delta n e (leb-false n.start (n.start / H.delta * H.delta) g))) (λ o. absurd (true≢false (sym o)))
+      go k false g = rw (g, le-leb (suc (n.start / H.delta) * H.delta) n.end (touch_line H.delta n e (leb-false n.start (n.start / H.delta * H.delta) g))) (λ o. absurd (true≢false (sym o)))
 
   -- the cells of a recording start fresh
   fresh : (ns : List Note) → All (λ n. n.start < n.end) ns → Fresh (gather (cells_of_note H.delta) ns)

@@ -2,7 +2,7 @@
 -- Assumes nothing.
 use Rattle.std.specs.Prelude.{Bool, false, true, ◌≡◌, eqb, drop, length, take}
 use mathlib.Core.List.{List, [], ◌++◌, ◌∷◌, append_assoc, map}
-use Rattle.std.proofs.Common.{◌∙◌, sym, suc-add, length-append, length-drop, length-take, le_leb, le_ltb, lt_ltb}
+use Rattle.std.proofs.Common.{◌∙◌, sym, suc-add, length-append, length-drop, length-take, le-leb, le-ltb, lt-ltb}
 use Rattle.std.proofs.Math.Path.{ap, refl}
 use Prim.Native.Nat.{◌+◌, ◌-◌, ◌<◌, ◌≤◌, suc, zero, ℕ}
 use Rattle.std.proofs.Math.Nat.{add-suc, add-zero, zero-add}
@@ -45,7 +45,7 @@ module _ {A : Type 0} (beat : A → ℕ) (to : ℕ → A → A)
   unfolding left_of placed
   left-none k i [] a = refl
   left-none k i (p ∷ h) a =
-      rw (keep_append (λ x. ltb (beat x) k) (map (to i) (own p)), keep_no (λ b. ltb b k) i (own p) (le_ltb i k a), left-none k (suc i) h (omega arith))
+      rw (keep_append (λ x. ltb (beat x) k) (map (to i) (own p)), keep_no (λ b. ltb b k) i (own p) (le-ltb i k a), left-none k (suc i) h (omega arith))
 
   left-placed : (k i : ℕ) (h : List (ℕ × ℕ)) → left_of beat (i + k) (placed beat to of i h) ≡ placed beat to of i (take k h)
   unfolding left_of placed
@@ -53,7 +53,7 @@ module _ {A : Type 0} (beat : A → ℕ) (to : ℕ → A → A)
   left-placed (suc k) i [] = refl
   left-placed (suc k) i (p ∷ h) =
       let m : suc i + k ≡ i + suc k = omega arith in
-      rw (keep_append (λ x. ltb (beat x) (i + suc k)) (map (to i) (own p)), keep_yes (λ b. ltb b (i + suc k)) i (own p) (lt_ltb i (i + suc k) (omega arith)), rw m at (left-placed k (suc i) h))
+      rw (keep_append (λ x. ltb (beat x) (i + suc k)) (map (to i) (own p)), keep_yes (λ b. ltb b (i + suc k)) i (own p) (lt-ltb i (i + suc k) (omega arith)), rw m at (left-placed k (suc i) h))
 
   -- rebased beats
   back : (k j : ℕ) (xs : List A) → map (λ x. to (beat x - k) x) (map (to (k + j)) xs) ≡ map (to j) xs
@@ -70,7 +70,7 @@ module _ {A : Type 0} (beat : A → ℕ) (to : ℕ → A → A)
       let m : k + suc j ≡ suc (k + j) = omega arith in
       rw (
         keep_append (λ x. leb k (beat x)) (map (to (k + j)) (own p)) rest,
-        keep_yes (leb k) (k + j) (own p) (le_leb k (k + j) (omega arith)),
+        keep_yes (leb k) (k + j) (own p) (le-leb k (k + j) (omega arith)),
         map-append (λ x. to (beat x - k) x) (map (to (k + j)) (own p)),
         back k j (own p),
         rw m at (right-back k (suc j) h),

@@ -8,7 +8,7 @@ use Rattle.std.proofs.Math.Path.{ap, refl}
 use Rattle.std.proofs.Math.Decide.{ℕ_discrete}
 use native.Mathlib.Omega.{arith}
 use Rattle.std.proofs.Math.Dec.{eqb}
-use borrow.Author.Tests.{eq_eqb, eqb-true, ne_eqb}
+use borrow.Author.Tests.{eq-eqb, eqb-true, ne_eqb}
 use Rattle.model.specs.Lists.{cons_if, count_from, gather, keep}
 use Rattle.model.specs.Takes.{Take, lanes, notes_of}
 use Rattle.model.specs.declared.Cell.{Cell}
@@ -78,7 +78,7 @@ module _ {A : Type 0} (lane : A → ℕ) where
       go : (b : Bool) → eqb (lane x) l ≡ b → keep (λ x. eqb (lane x) l) xs ≡ run_of l xs
           → cons_if b x (keep (λ x. eqb (lane x) l) xs) ≡ cond b (x ∷ run_of l xs) []
       go true e ih = ap (◌∷◌ x) ih
-      go false e ih = none-at l xs (higher l x xs f (λ h. true≢false (sym (eq_eqb (lane x) l h) ∙ e))).1
+      go false e ih = none-at l xs (higher l x xs f (λ h. true≢false (sym (eq-eqb (lane x) l h) ∙ e))).1
 
   -- what stands behind it is of higher lanes
   pub rest_from : (l : ℕ) (xs : List A) → From l xs → From (suc l) (rest_of l xs)
@@ -88,7 +88,7 @@ module _ {A : Type 0} (lane : A → ℕ) where
     where
       go : (b : Bool) → eqb (lane x) l ≡ b → From (suc l) (rest_of l xs) → From (suc l) (cond b (rest_of l xs) (x ∷ xs))
       go true e ih = ih
-      go false e ih = record { sorted = f.sorted; above = higher l x xs f (λ h. true≢false (sym (eq_eqb (lane x) l h) ∙ e)); below = f.below }
+      go false e ih = record { sorted = f.sorted; above = higher l x xs f (λ h. true≢false (sym (eq-eqb (lane x) l h) ∙ e)); below = f.below }
 
   -- a higher lane is as it was
   keep-rest : (l m : ℕ) (xs : List A) → l < m → keep (λ x. eqb (lane x) m) (rest_of l xs) ≡ keep (λ x. eqb (lane x) m) xs

@@ -3,7 +3,7 @@
 use Rattle.std.specs.Prelude.{Bool, ◌≡◌, ◌*◌, ◌+◌, ◌<◌, ◌≤◌, suc, ℕ, length}
 use Rattle.std.proofs.Math.Bool.{false, true}
 use mathlib.Core.List.{List, [], ◌++◌, ◌∷◌, append-nil, map}
-use Rattle.std.proofs.Common.{◌∙◌, ap, ap₂, length-append, eq_eqb, ne_eqb}
+use Rattle.std.proofs.Common.{◌∙◌, ap, ap₂, length-append, eq-eqb, ne_eqb}
 use Rattle.std.proofs.Math.Path.{refl, sym}
 use native.Mathlib.Omega.{arith}
 use Rattle.model.specs.Binding.{bound_next, line_notes, stands_alone}
@@ -308,7 +308,7 @@ module _ (H : Header) (z : 0 < H.delta) (le : H.epsilon ≤ H.delta) (l n : ℕ)
     over_law : bound_at H n x d ≡ true → Crossed H (take_with n ti (c ∷ cs)) (take_with m ui (d ∷ ds)) x d
     over_law e =
         let line = at-line H n x d e in
-        let o = opened H le s.second.solid.cells_pieced (eq_eqb d.side 0 line.opens) in
+        let o = opened H le s.second.solid.cells_pieced (eq-eqb d.side 0 line.opens) in
         over_from line o (walk-bound H le (map (cell_later n) (d ∷ ds)) (note_later (n * H.delta) o.note) (map (note_later (n * H.delta)) o.rest) s.first.solid.cells_pieced (is_bound ∙ e)
         (walk_later H n s.second.solid.cells_pieced true ∙ ap (map (note_later (n * H.delta))) o.held))
 

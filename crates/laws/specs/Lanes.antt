@@ -10,7 +10,7 @@ use Rattle.std.proofs.Math.Decide.{ℕ_discrete}
 use native.Mathlib.Omega.{arith}
 use Rattle.std.proofs.Math.Dec.{eqb, leb}
 use Rattle.std.proofs.Math.ListN.{length}
-use borrow.Author.Tests.{eq_eqb, eqb-true, leb-false, leb_true, ne_eqb}
+use borrow.Author.Tests.{eq-eqb, eqb-true, leb-false, leb-true, ne_eqb}
 use Rattle.model.specs.Lists.{count_from, gather, keep}
 use Rattle.model.specs.Takes.{by_lane, lanes}
 use Rattle.laws.specs.Lists.{gather-count, gather-one, gather_same, keep_append, keep_ext, keep-gather, keep-keep, keep-map, keep_same, keep_swap, map-gather}
@@ -100,7 +100,7 @@ module _ {A : Type 0} (lane : A → ℕ) where
         | yes e ↦ rw (
           keep_append (λ x. eqb (lane x) l) zs (y ∷ ys),
           keep_append (λ x. eqb (lane x) l) zs ys,
-          eq_eqb (lane y) l e,
+          eq-eqb (lane y) l e,
           keep_no (λ x. eqb (lane x) l) zs (all_imp (λ z. lane y < lane z) (λ z. eqb (lane z) l ≡ false) zs (λ z h. ne_eqb (lane z) l (omega arith)) a),
         )
         | no d ↦ rw (keep_append (λ x. eqb (lane x) l) zs (y ∷ ys), keep_append (λ x. eqb (lane x) l) zs ys, ne_eqb (lane y) l d)
@@ -122,7 +122,7 @@ module _ {A : Type 0} (lane : A → ℕ) where
       go : (b : Bool) → leb (lane x) (lane y) ≡ b → insert_lane x (λ zs. merge_lane xs zs) ys ≡ by_lane lane (x ∷ (xs ++ ys))
           → insert_lane x (λ zs. merge_lane xs zs) (y ∷ ys) ≡ by_lane lane (x ∷ (xs ++ y ∷ ys))
       go true e ih =
-          let h : lane x ≤ lane y = leb_true (lane x) (lane y) e in
+          let h : lane x ≤ lane y = leb-true (lane x) (lane y) e in
           rw (e, insert_lane) (ap (◌∷◌ x) (f (y ∷ ys) t)
           ∙ sym (first_lane x (xs ++ y ∷ ys) s.1.0 (all_append (λ z. lane x ≤ lane z) xs (y ∷ ys) s.0.0 (all_above x y ys h t.0.0))))
       go false e ih =

@@ -9,7 +9,7 @@ use Prim.Native.Nat.{◌*◌, ◌+◌, ◌-◌, ◌/◌, ◌<◌, ◌≤◌, suc
 use Rattle.std.proofs.Math.Nat.{mul-div_left}
 use native.Mathlib.Omega.{arith}
 use Rattle.std.proofs.Math.Dec.{eqb, ltb}
-use borrow.Author.Tests.{eqb-true, le_ltb, ltb-false, ne_eqb}
+use borrow.Author.Tests.{eqb-true, le-ltb, ltb-false, ne_eqb}
 use Rattle.model.specs.Binding.{Piece, bound, bound_next, end_of, fills, first_shown, go_on, line_notes, meet, opening, pieces, runs, start_of}
 use Rattle.model.specs.Lists.{keep}
 use Rattle.model.specs.Pieces.{inside, inside_at}
@@ -47,20 +47,20 @@ module _ (δ : ℕ) where
 module _ (δ : ℕ) (z : 0 < δ) where
   pub from-line : (b e : ℕ) → inside_at δ (b * δ) e ≡ false
   unfolding inside_at
-  from-line b e = rw (mul-div_left b z, le_ltb (b * δ) (b * δ) (omega arith))
+  from-line b e = rw (mul-div_left b z, le-ltb (b * δ) (b * δ) (omega arith))
 
   pub to-line : (s b : ℕ) → s < suc b * δ → inside_at δ s (suc b * δ) ≡ false
   unfolding inside_at
   to-line s b h =
       let q : suc (s / δ) ≤ suc b = (div-lt_iff_lt-mul z).1 h in
-      and_no (ltb (s / δ * δ) s) _ (le_ltb (suc b * δ) (suc (s / δ) * δ) (mul-le-mul_right δ q))
+      and_no (ltb (s / δ * δ) s) _ (le-ltb (suc b * δ) (suc (s / δ) * δ) (mul-le-mul_right δ q))
 
   pub longer : (s e f : ℕ) → inside_at δ s e ≡ false → e ≤ f → inside_at δ s f ≡ false
   unfolding inside_at
   longer s e f h l = go (ltb (s / δ * δ) s) h
     where
       go : (t : Bool) → t && ltb e (suc (s / δ) * δ) ≡ false → t && ltb f (suc (s / δ) * δ) ≡ false
-      go true k = let m : suc (s / δ) * δ ≤ e = ltb-false e (suc (s / δ) * δ) k in le_ltb f (suc (s / δ) * δ) (omega arith)
+      go true k = let m : suc (s / δ) * δ ≤ e = ltb-false e (suc (s / δ) * δ) k in le-ltb f (suc (s / δ) * δ) (omega arith)
       go false k = refl
 
   begin_step : (p : Piece) (j : Bool) (ns : List Note) → p.note.start ≤ p.note.end → (j ≡ true → Begins p.note.end ns)

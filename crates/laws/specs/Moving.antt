@@ -8,7 +8,7 @@ use Prim.Native.Nat.{◌%◌, ◌*◌, ◌+◌, ◌-◌, ◌/◌, ◌<◌, ◌�
 use Rattle.std.proofs.Math.Decide.{dec_le, ℕ_discrete}
 use native.Mathlib.Omega.{arith}
 use Rattle.std.proofs.Math.Dec.{eqb, leb, ltb}
-use borrow.Author.Tests.{eqb-true, leb_true, ltb-true}
+use borrow.Author.Tests.{eqb-true, leb-true, ltb-true}
 use Rattle.model.specs.Binding.{fills}
 use Rattle.model.specs.Histories.{Recording, history_take, placed, take_of}
 use Rattle.model.specs.Lists.{keep}
@@ -265,9 +265,9 @@ module _ (δ : ℕ) (z : 0 < δ) where
       let r : Solid δ kept = solid_keep t s (λ b. leb k b) t.beats (λ b a e. a) in
       let D : ℕ → Type 0 = λ b. (k ≤ b) × (b < t.beats) in
       solid_move D (λ b. b - k) (λ a b p q l. let x = p.0 in let y = q.0 in omega arith) kept r (t.beats - k)
-      (all_imp (λ n. (leb k (first_beat δ n) ≡ true) × (Fair δ t.beats n × (inside δ n ≡ true))) (λ n. D (first_beat δ n)) kept.inner (λ n p. (leb_true k (first_beat δ n) p.0, inner_beat t.beats n p.1.0 p.1.1))
+      (all_imp (λ n. (leb k (first_beat δ n) ≡ true) × (Fair δ t.beats n × (inside δ n ≡ true))) (λ n. D (first_beat δ n)) kept.inner (λ n p. (leb-true k (first_beat δ n) p.0, inner_beat t.beats n p.1.0 p.1.1))
       (all_both (λ n. leb k (first_beat δ n) ≡ true) (λ n. Fair δ t.beats n × (inside δ n ≡ true)) kept.inner (all-kept (λ n. leb k (first_beat δ n)) t.inner) (all_both (Fair δ t.beats) (λ n. inside δ n ≡ true) kept.inner r.notes_fair r.notes-inside)))
-      (all_imp (λ c. (leb k c.beat ≡ true) × Fine δ t.beats c) (λ c. D c.beat) kept.cells (λ c p. (leb_true k c.beat p.0, p.1.beat_below))
+      (all_imp (λ c. (leb k c.beat ≡ true) × Fine δ t.beats c) (λ c. D c.beat) kept.cells (λ c p. (leb-true k c.beat p.0, p.1.beat_below))
       (all_both (λ c. leb k c.beat ≡ true) (Fine δ t.beats) kept.cells (all-kept (λ c. leb k c.beat) t.cells) r.cells_fine))
       (λ b p. let x = p.0 in let y = p.1 in omega arith)
 

@@ -8,7 +8,7 @@ use Rattle.std.proofs.Math.Path.{refl, sym}
 use Prim.Native.Nat.{◌*◌, ◌+◌, ◌-◌, ◌/◌, ◌<◌, ◌≤◌, max, min, suc, zero, ℕ}
 use Rattle.std.proofs.Math.Nat.{max-eq_left, max-eq_right, min-eq_left, min-eq_right}
 use native.Mathlib.Omega.{arith}
-use borrow.Author.Tests.{le_leb, leb-false, leb_true, lt-leb}
+use borrow.Author.Tests.{le-leb, leb-false, leb-true, lt-leb}
 use Rattle.model.specs.Binding.{Piece, bound_next, end_of, fills, pieces, start_of}
 use Rattle.model.specs.Lists.{count_from, gather}
 use Rattle.model.specs.Pieces.{cell_at, cells_in_beat, cells_of_note, inside, note_pieces, piece_in}
@@ -47,7 +47,7 @@ module _ (H : Header) (z : 0 < H.delta) (n : Note) where
 
   filling : (b : ℕ) → suc b * H.delta ≤ n.end → fills H.delta (cell_at n b 0 (b * H.delta)) ≡ true
   unfolding fills cell_at
-  filling b h = le_leb H.delta (n.end - b * H.delta) (omega arith)
+  filling b h = le-leb H.delta (n.end - b * H.delta) (omega arith)
 
   not_filling : (b : ℕ) → n.end < suc b * H.delta → fills H.delta (cell_at n b 0 (b * H.delta)) ≡ false
   unfolding fills cell_at
@@ -88,11 +88,11 @@ module _ (H : Header) (z : 0 < H.delta) (n : Note) where
 
       go : (t u : Bool) → leb n.start (b * H.delta) ≡ t → leb (suc b * H.delta) n.end ≡ u
           → map ticks (pieces H left (cells 0 b)) ≡ piece_in H.delta n b ∷ []
-      go true true e g = rw (e, g) (full b left [] [] (leb_true n.start (b * H.delta) e) (leb_true (suc b * H.delta) n.end g) nothing)
-      go true false e g = rw (e, g) (last b left (leb_true n.start (b * H.delta) e) (omega arith) (leb-false (suc b * H.delta) n.end g))
+      go true true e g = rw (e, g) (full b left [] [] (leb-true n.start (b * H.delta) e) (leb-true (suc b * H.delta) n.end g) nothing)
+      go true false e g = rw (e, g) (last b left (leb-true n.start (b * H.delta) e) (omega arith) (leb-false (suc b * H.delta) n.end g))
       go false true e g =
           let w : b * H.delta < n.start = leb-false n.start (b * H.delta) e in
-          rw (e, g) (first b left [] [] (omega arith) h (leb_true (suc b * H.delta) n.end g) nothing)
+          rw (e, g) (first b left [] [] (omega arith) h (leb-true (suc b * H.delta) n.end g) nothing)
       go false false e g =
           let w : suc b * H.delta ≤ n.end = t (leb-false n.start (b * H.delta) e) in
           let x : n.end < suc b * H.delta = leb-false (suc b * H.delta) n.end g in
@@ -104,11 +104,11 @@ module _ (H : Header) (z : 0 < H.delta) (n : Note) where
           → map ticks (pieces H left (cells (suc k) b)) ≡ piece_in H.delta n b ∷ map (piece_in H.delta n) (count_from (suc k) (suc b))
       go true e ih =
           let w : suc b * H.delta ≤ n.end = omega arith in
-          rw (e, le_leb (suc b * H.delta) n.end w) (full b left (cells k (suc b)) (map (piece_in H.delta n) (count_from (suc k) (suc b))) (leb_true n.start (b * H.delta) e) w ih)
+          rw (e, le-leb (suc b * H.delta) n.end w) (full b left (cells k (suc b)) (map (piece_in H.delta n) (count_from (suc k) (suc b))) (leb-true n.start (b * H.delta) e) w ih)
       go false e ih =
           let w : suc b * H.delta ≤ n.end = omega arith in
           let x : b * H.delta < n.start = leb-false n.start (b * H.delta) e in
-          rw (e, le_leb (suc b * H.delta) n.end w) (first b left (cells k (suc b)) (map (piece_in H.delta n) (count_from (suc k) (suc b))) (omega arith) h w ih)
+          rw (e, le-leb (suc b * H.delta) n.end w) (first b left (cells k (suc b)) (map (piece_in H.delta n) (count_from (suc k) (suc b))) (omega arith) h w ih)
 
   -- a note that touches a line: its cells give its pieces
   pub note_pieces_lem : n.start < n.end → inside H.delta n ≡ false → map ticks (pieces H false (cells_of_note H.delta n)) ≡ note_pieces H.delta n

@@ -2,7 +2,7 @@
 -- Assumes nothing.
 use Rattle.std.specs.Prelude.{Bool, ◌&&◌, ◌||◌, false, true, ◌≡◌, refl, ◌*◌, ◌<◌, ◌≤◌, ℕ, eqb, leb, ltb}
 use mathlib.Core.List.{List, [], ◌∷◌}
-use Rattle.std.proofs.Common.{sym, arith, eq_eqb, eqb-true, le_leb, le_ltb, leb_true, lt_ltb, ltb-true, ne_eqb}
+use Rattle.std.proofs.Common.{sym, arith, eq-eqb, eqb-true, le-leb, le-ltb, leb-true, lt-ltb, ltb-true, ne_eqb}
 use Rattle.std.proofs.lemmas.Bool.{lt-leb}
 use Rattle.model.specs.Limits.{velocity_ok}
 use Rattle.model.specs.Soundness.{first_follows, follows, note_ok, notes_ok}
@@ -36,14 +36,14 @@ fair δ beats n e =
     record {
       lane_below = ltb-true n.lane 2048 (and_left a b e2);
       order = ltb-true n.start n.end (and_right a b e2);
-      fits = leb_true n.end (beats * δ) (and_right (a && b) c e3);
+      fits = leb-true n.end (beats * δ) (and_right (a && b) c e3);
       loud = and_right (a && b && c) v e;
     }
 
 pub fair_ok : (δ beats : ℕ) (n : Note) → Fair δ beats n → note_ok δ beats n ≡ true
 unfolding note_ok
 fair_ok δ beats n f =
-    and_yes (and_yes (and_yes (lt_ltb n.lane 2048 f.lane_below) (lt_ltb n.start n.end f.order)) (le_leb n.end (beats * δ) f.fits)) f.loud
+    and_yes (and_yes (and_yes (lt-ltb n.lane 2048 f.lane_below) (lt-ltb n.start n.end f.order)) (le-leb n.end (beats * δ) f.fits)) f.loud
 
 -- ---- order
 
@@ -62,12 +62,12 @@ follow m n e = go (ltb m.lane n.lane) refl e
   where
     go : (b : Bool) → ltb m.lane n.lane ≡ b → b || eqb m.lane n.lane && leb m.end n.start ≡ true → Follow m n
     go true f g = above (ltb-true m.lane n.lane f)
-    go false f g = later (eqb-true m.lane n.lane (and_left (eqb m.lane n.lane) _ g)) (leb_true m.end n.start (and_right (eqb m.lane n.lane) _ g))
+    go false f g = later (eqb-true m.lane n.lane (and_left (eqb m.lane n.lane) _ g)) (leb-true m.end n.start (and_right (eqb m.lane n.lane) _ g))
 
 pub follow_is : (m n : Note) → Follow m n → follows m n ≡ true
 unfolding follows
-follow_is m n (above a) = or_left (eqb m.lane n.lane && leb m.end n.start) (lt_ltb m.lane n.lane a)
-follow_is m n (later a b) = or_right (ltb m.lane n.lane) (and_yes (eq_eqb m.lane n.lane a) (le_leb m.end n.start b))
+follow_is m n (above a) = or_left (eqb m.lane n.lane && leb m.end n.start) (lt-ltb m.lane n.lane a)
+follow_is m n (later a b) = or_right (ltb m.lane n.lane) (and_yes (eq-eqb m.lane n.lane a) (le-leb m.end n.start b))
 
 pub follow_trans : (l m n : Note) → m.start < m.end → Follow l m → Follow m n → Follow l n
 follow_trans l m n v (above a) (above b) = above (omega arith)
@@ -82,10 +82,10 @@ Before m n = (note_before m n ≡ true) × (note_before n m ≡ false)
 pub before : (m n : Note) → m.start < m.end → Follow m n → Before m n
 unfolding note_before
 before m n v (above a) =
-    (rw (lt_ltb m.lane n.lane a), rw (le_ltb n.lane m.lane (omega arith), ne_eqb n.lane m.lane (λ e. omega arith)))
+    (rw (lt-ltb m.lane n.lane a), rw (le-ltb n.lane m.lane (omega arith), ne_eqb n.lane m.lane (λ e. omega arith)))
 before m n v (later a b) = (
-  rw (le_ltb m.lane n.lane (omega arith), eq_eqb m.lane n.lane a, le_leb m.start n.start (omega arith)),
-  rw (le_ltb n.lane m.lane (omega arith), eq_eqb n.lane m.lane (sym a), lt-leb n.start m.start (omega arith)),
+  rw (le-ltb m.lane n.lane (omega arith), eq-eqb m.lane n.lane a, le-leb m.start n.start (omega arith)),
+  rw (le-ltb n.lane m.lane (omega arith), eq-eqb n.lane m.lane (sym a), lt-leb n.start m.start (omega arith)),
 )
 
 -- Two notes, one behind the other.

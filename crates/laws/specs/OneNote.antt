@@ -8,7 +8,7 @@ use Rattle.std.proofs.Math.Path.{refl}
 use Prim.Native.Nat.{◌*◌, ◌+◌, ◌-◌, ◌/◌, ◌<◌, ◌≤◌, suc, zero, ℕ}
 use Rattle.std.proofs.Math.Decide.{dec_le, ℕ_discrete}
 use Rattle.std.proofs.Math.Dec.{leb}
-use borrow.Author.Tests.{eq_eqb, le_leb, leb-false, leb_true, lt-leb, ne_eqb}
+use borrow.Author.Tests.{eq-eqb, le-leb, leb-false, leb-true, lt-leb, ne_eqb}
 use Rattle.model.specs.Binding.{fills, opening}
 use Rattle.model.specs.Histories.{Recording, recording_take}
 use Rattle.model.specs.Limits.{velocity_ok}
@@ -94,9 +94,9 @@ module _ (δ : ℕ) (z : 0 < δ) where
   unfolding cells_in_beat
   of_beat n b l h =
       all-cons_if (Of δ n) (leb n.start (b * δ)) (cell_at n b 0 (b * δ)) _
-      (λ e. let a : n.start ≤ b * δ = leb_true n.start (b * δ) e in opens (record { lane_is = refl; side_is = refl; start_is = omega arith; end_is = omega arith; ticks = omega arith; velocity_is = refl }))
+      (λ e. let a : n.start ≤ b * δ = leb-true n.start (b * δ) e in opens (record { lane_is = refl; side_is = refl; start_is = omega arith; end_is = omega arith; ticks = omega arith; velocity_is = refl }))
       (all-cons_if (Of δ n) (leb (suc b * δ) n.end) (cell_at n b 1 (suc b * δ)) []
-      (λ e. let a : suc b * δ ≤ n.end = leb_true (suc b * δ) n.end e in closes (record { lane_is = refl; side_is = refl; start_is = omega arith; end_is = omega arith; ticks = omega arith; velocity_is = refl })) tt)
+      (λ e. let a : suc b * δ ≤ n.end = leb-true (suc b * δ) n.end e in closes (record { lane_is = refl; side_is = refl; start_is = omega arith; end_is = omega arith; ticks = omega arith; velocity_is = refl })) tt)
 
   last_beat : (n : Note) → n.start < n.end → n.start / δ ≤ (n.end - 1) / δ
   last_beat n v = div_mono δ z n.start (n.end - 1) (omega arith)
@@ -129,7 +129,7 @@ module _ (δ : ℕ) (z : 0 < δ) where
         high_is = omega arith;
         sum_is = omega arith;
         open_ticks = λ x. ti;
-        close_ticks = λ x. absurd (true≢false (sym (eq_eqb c.side 0 si) ∙ x));
+        close_ticks = λ x. absurd (true≢false (sym (eq-eqb c.side 0 si) ∙ x));
       }
   bounds n c (closes o) =
       let st = o.start_is in let en = o.end_is in let ti = o.ticks in let si = o.side_is in
@@ -170,8 +170,8 @@ module _ (δ : ℕ) (z : 0 < δ) where
       go : (t u : Bool) → leb n.start (b * δ) ≡ t → leb (suc b * δ) n.end ≡ u
           → Pieced δ (cons_if t (cell_at n b 0 (b * δ)) (cons_if u (cell_at n b 1 (suc b * δ)) []))
       go true true e g =
-          let a : n.start ≤ b * δ = leb_true n.start (b * δ) e in
-          let d : suc b * δ ≤ n.end = leb_true (suc b * δ) n.end g in
+          let a : n.start ≤ b * δ = leb-true n.start (b * δ) e in
+          let d : suc b * δ ≤ n.end = leb-true (suc b * δ) n.end g in
           double {c = cell_at n b 0 (b * δ)} {d = cell_at n b 1 (suc b * δ)} (record { lane_same = refl; beat_same = refl; opens = refl; closes = refl; long = omega arith; before_is = omega arith; after_is = omega arith; velocity_same = refl }) stop
       go true false e g =
           let d : n.end < suc b * δ = leb-false (suc b * δ) n.end g in
@@ -206,8 +206,8 @@ module _ (δ : ℕ) (z : 0 < δ) where
     where
       go : (t u : Bool) → leb (suc b * δ) n.end ≡ u → Pairs (Apart δ) (cons_if t (cell_at n b 0 (b * δ)) (cons_if u (cell_at n b 1 (suc b * δ)) []))
       go true true g =
-          let d : suc b * δ ≤ n.end = leb_true (suc b * δ) n.end g in
-          ((side_up refl refl refl refl (λ f. absurd (true≢false (sym (le_leb δ (n.end - b * δ) (omega arith)) ∙ f))), tt), (tt, tt))
+          let d : suc b * δ ≤ n.end = leb-true (suc b * δ) n.end g in
+          ((side_up refl refl refl refl (λ f. absurd (true≢false (sym (le-leb δ (n.end - b * δ) (omega arith)) ∙ f))), tt), (tt, tt))
       go true false g = (tt, tt)
       go false true g = (tt, tt)
       go false false g = tt
@@ -277,7 +277,7 @@ module _ (δ : ℕ) (z : 0 < δ) where
       let st = o.start_is in
       record {
         behind = λ l b e. let k : first_beat δ n * δ ≡ c.beat * δ = ap (λ (j : ℕ). j * δ) b in absurd (omega arith);
-        before = λ l b e. absurd (true≢false (sym (eq_eqb c.side 0 o.side_is) ∙ e));
+        before = λ l b e. absurd (true≢false (sym (eq-eqb c.side 0 o.side_is) ∙ e));
       }
   clear_behind n m c i v (later a h) (closes o) =
       let st = o.start_is in
@@ -293,7 +293,7 @@ module _ (δ : ℕ) (z : 0 < δ) where
       let en = o.end_is in
       record {
         behind = λ l b e. omega arith;
-        before = λ l b e. absurd (true≢false (sym (eq_eqb c.side 0 o.side_is) ∙ e));
+        before = λ l b e. absurd (true≢false (sym (eq-eqb c.side 0 o.side_is) ∙ e));
       }
   clear-before n m c i v (later a h) (closes o) =
       let w : n.end < suc (first_beat δ n) * δ = inside_high δ n i in

@@ -7,7 +7,7 @@ use Rattle.std.proofs.Math.Path.{ap, refl, sym}
 use Prim.Native.Nat.{◌*◌, ◌+◌, ◌-◌, ◌<◌, ◌≤◌, suc, ℕ}
 use Rattle.std.proofs.Math.Decide.{dec_le, ℕ_discrete}
 use native.Mathlib.Omega.{arith}
-use borrow.Author.Tests.{eq_eqb, le_leb, leb_true, lt-leb, ne_eqb}
+use borrow.Author.Tests.{eq-eqb, le-leb, leb-true, lt-leb, ne_eqb}
 use Rattle.model.specs.Binding.{Piece, bound_next, end_of, fills, opening, pieces, start_of}
 use Rattle.model.specs.Pieces.{first_beat}
 use Rattle.model.specs.Soundness.{apart}
@@ -27,16 +27,16 @@ use Rattle.laws.specs.Spans.{away_double, away_single, double_gap, first-from, s
 pub away_apart : (m n : Note) → Away m n → apart m n ≡ true
 unfolding apart
 away_apart m n (left (above a)) = rw (ne_eqb m.lane n.lane (omega arith))
-away_apart m n (left (later a b)) = or_left (leb n.end m.start) (or_right (not (eqb m.lane n.lane)) (le_leb m.end n.start b))
+away_apart m n (left (later a b)) = or_left (leb n.end m.start) (or_right (not (eqb m.lane n.lane)) (le-leb m.end n.start b))
 away_apart m n (right (above a)) = rw (ne_eqb m.lane n.lane (omega arith))
-away_apart m n (right (later a b)) = or_right (not (eqb m.lane n.lane) || leb m.end n.start) (le_leb n.end m.start b)
+away_apart m n (right (later a b)) = or_right (not (eqb m.lane n.lane) || leb m.end n.start) (le-leb n.end m.start b)
 
 pub apart_away : (m n : Note) → apart m n ≡ true → Away m n
 unfolding apart
 apart_away m n e = elim (ℕ_discrete m.lane n.lane) [
   | yes l ↦ elim (dec_le m.end n.start) [
     | yes a ↦ left (later l a)
-    | no a ↦ right (later (sym l) (leb_true n.end m.start (rw (eq_eqb m.lane n.lane l, lt-leb m.end n.start (omega arith)) at e)))
+    | no a ↦ right (later (sym l) (leb-true n.end m.start (rw (eq-eqb m.lane n.lane l, lt-leb m.end n.start (omega arith)) at e)))
   ]
   | no d ↦ elim (dec_le (suc m.lane) n.lane) [ yes a ↦ left (above a) | no a ↦ right (above (omega arith)) ]
 ]
@@ -180,7 +180,7 @@ module _ (δ beats : ℕ) (z : 0 < δ) where
   own_gap c d k a l b o s = go a
     where
       x : opening c ≡ true
-      x = eq_eqb c.side 0 o
+      x = eq-eqb c.side 0 o
 
       y : opening d ≡ false
       y = ne_eqb d.side 0 (omega arith)

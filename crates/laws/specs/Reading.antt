@@ -1,7 +1,7 @@
 -- A shelf's words read back.
 -- Assumes nothing.
 use Rattle.std.specs.Prelude.{◌&&◌, true, List, [], ◌++◌, ◌∷◌, ◌≡◌, refl, ◌*◌, ◌+◌, ◌-◌, ◌≤◌, suc, zero, ℕ, eqb, drop, length, replicate}
-use Rattle.std.proofs.Common.{true≢false, ◌∙◌, ap, ap₂, sym, arith, length-drop, drop-drop, eq_eqb, eqb-true}
+use Rattle.std.proofs.Common.{true≢false, ◌∙◌, ap, ap₂, sym, arith, length-drop, drop-drop, eq-eqb, eqb-true}
 use Rattle.model.specs.Lists.{every, gather, keep}
 use Rattle.model.specs.Pieces.{inside}
 use Rattle.model.specs.Soundness.{same_words}
@@ -50,7 +50,7 @@ words_take H t e = take_in_lem H.delta H.words t.beats (notes_of H t) t.cells �
 
 pub same_words_lem : (xs : List ℕ) → same_words xs xs ≡ true
 same_words_lem [] = refl
-same_words_lem (x ∷ xs) = and_yes (eq_eqb x x refl) (same_words_lem xs)
+same_words_lem (x ∷ xs) = and_yes (eq-eqb x x refl) (same_words_lem xs)
 
 pub zeros : (k : ℕ) → every (eqb 0) (replicate k 0) ≡ true
 zeros zero = refl

@@ -1,7 +1,7 @@
 -- A property of each element of a list (All), and of each element with every later one (Pairs).
 -- Assumes nothing.
 use Rattle.std.specs.Prelude.{Bool, cond, false, true, List, [], ◌++◌, ◌∷◌, ◌≡◌, refl, ◌+◌, ◌<◌, ◌≤◌, suc, zero, ℕ, eqb, drop, get_or, length, set, take}
-use Rattle.std.proofs.Common.{◌∙◌, ap, sym, arith, eq_eqb, ne_eqb}
+use Rattle.std.proofs.Common.{◌∙◌, ap, sym, arith, eq-eqb, ne_eqb}
 use Rattle.std.proofs.Math.Decide.{ℕ_discrete}
 use Rattle.model.specs.Lists.{cons_if, count_from, every, gather, keep}
 use Rattle.laws.specs.Booleans.{and_left, and_right, and_yes}
@@ -80,7 +80,7 @@ module _ {A : Type 0} where
         → gather (bucket (x ∷ xs)) (count_from n i) ≡ x ∷ gather (bucket xs) (count_from n i)
     bucket_step x xs zero i a b s = absurd (omega arith)
     bucket_step x xs (suc n) i a b s = elim (ℕ_discrete i (key x)) [
-      | yes e ↦ rw (eq_eqb (key x) i (sym e), gather-count (bucket (x ∷ xs)) (bucket xs) n (suc i) (λ k c d. rw (ne_eqb (key x) k (omega arith))))
+      | yes e ↦ rw (eq-eqb (key x) i (sym e), gather-count (bucket (x ∷ xs)) (bucket xs) n (suc i) (λ k c d. rw (ne_eqb (key x) k (omega arith))))
       | no d ↦ rw (
         ne_eqb (key x) i (λ e. d (sym e)),
         below i xs (all_imp (λ y. key x ≤ key y) (λ y. i < key y) xs (λ y h. omega arith) s),

@@ -6,7 +6,7 @@ use Rattle.std.proofs.Common.{◌∙◌, sym, arith}
 use Rattle.std.proofs.Math.Path.{ap, ap₂, refl}
 use Rattle.std.proofs.Math.Decide.{dec_le}
 use Rattle.std.proofs.Math.Dec.{eqb, leb, ltb}
-use borrow.Author.Tests.{le_leb, le_ltb, leb_true, lt-leb, lt_ltb}
+use borrow.Author.Tests.{le-leb, le-ltb, leb-true, lt-leb, lt-ltb}
 use Rattle.model.specs.Lists.{keep}
 use Rattle.model.specs.Pieces.{first_beat}
 use Rattle.model.specs.Soundness.{sound_shelf}
@@ -34,12 +34,12 @@ module _ {A : Type 0} (lane beat : A → ℕ) (to : ℕ → A → A)
   cut : (k : ℕ) (xs : List A) → Pairs (λ x y. beat x ≤ beat y) xs → keep (λ x. ltb (beat x) k) xs ++ keep (λ x. leb k (beat x)) xs ≡ xs
   cut k [] s = refl
   cut k (x ∷ xs) s = elim (dec_le (suc (beat x)) k) [
-    | yes l ↦ rw (lt_ltb (beat x) k l, lt-leb k (beat x) l) (ap (◌∷◌ x) (cut k xs s.1))
+    | yes l ↦ rw (lt-ltb (beat x) k l, lt-leb k (beat x) l) (ap (◌∷◌ x) (cut k xs s.1))
     | no l ↦ rw (
-      le_ltb (beat x) k (omega arith),
-      le_leb k (beat x) (omega arith),
-      keep_no (λ x. ltb (beat x) k) xs (all_imp (λ y. beat x ≤ beat y) (λ y. ltb (beat y) k ≡ false) xs (λ y h. le_ltb (beat y) k (omega arith)) s.0),
-      keep_yes (λ x. leb k (beat x)) xs (all_imp (λ y. beat x ≤ beat y) (λ y. leb k (beat y) ≡ true) xs (λ y h. le_leb k (beat y) (omega arith)) s.0),
+      le-ltb (beat x) k (omega arith),
+      le-leb k (beat x) (omega arith),
+      keep_no (λ x. ltb (beat x) k) xs (all_imp (λ y. beat x ≤ beat y) (λ y. ltb (beat y) k ≡ false) xs (λ y h. le-ltb (beat y) k (omega arith)) s.0),
+      keep_yes (λ x. leb k (beat x)) xs (all_imp (λ y. beat x ≤ beat y) (λ y. leb k (beat y) ≡ true) xs (λ y h. le-leb k (beat y) (omega arith)) s.0),
     )
   ]
 
@@ -77,7 +77,7 @@ module _ {A : Type 0} (lane beat : A → ℕ) (to : ℕ → A → A)
       let ys = keep (λ x. leb k (beat x)) xs in
       ap (λ (zs : List A). by_lane lane (keep (λ x. ltb (beat x) k) xs ++ zs))
       (there_back n k ys (all_both (Ranged lane beat to n) (λ x. k ≤ beat x) ys (all_keep (Ranged lane beat to n) (λ x. leb k (beat x)) xs t.1)
-      (all_imp (λ x. leb k (beat x) ≡ true) (λ x. k ≤ beat x) ys (λ x. leb_true k (beat x)) (all-kept (λ x. leb k (beat x)) xs))))
+      (all_imp (λ x. leb k (beat x) ≡ true) (λ x. k ≤ beat x) ys (λ x. leb-true k (beat x)) (all-kept (λ x. leb k (beat x)) xs))))
       ∙ two_parts n k xs t
 
   -- the parts of a join
@@ -91,8 +91,8 @@ module _ {A : Type 0} (lane beat : A → ℕ) (to : ℕ → A → A)
       let zs = map (λ x. to (n + beat x) x) ys in
       keep-by_lane lane (λ x. ltb (beat x) n) (xs ++ zs)
       ∙ ap (by_lane lane) (keep_append (λ x. ltb (beat x) n) xs zs
-      ∙ ap₂ ◌++◌ (keep_yes (λ x. ltb (beat x) n) xs (all_imp (Ranged lane beat to n) (λ x. ltb (beat x) n ≡ true) xs (λ x r. lt_ltb (beat x) n r.1) t.1))
-      (keep_no (λ x. ltb (beat x) n) zs (all_imp (λ x. n ≤ beat x) (λ x. ltb (beat x) n ≡ false) zs (λ x h. le_ltb (beat x) n h) (late n ys)))
+      ∙ ap₂ ◌++◌ (keep_yes (λ x. ltb (beat x) n) xs (all_imp (Ranged lane beat to n) (λ x. ltb (beat x) n ≡ true) xs (λ x r. lt-ltb (beat x) n r.1) t.1))
+      (keep_no (λ x. ltb (beat x) n) zs (all_imp (λ x. n ≤ beat x) (λ x. ltb (beat x) n ≡ false) zs (λ x h. le-ltb (beat x) n h) (late n ys)))
       ∙ append-nil xs)
       ∙ tidy_by_lane lane beat to n xs t
 
@@ -105,7 +105,7 @@ module _ {A : Type 0} (lane beat : A → ℕ) (to : ℕ → A → A)
       ap (map f) (keep-by_lane lane (λ x. leb n (beat x)) (xs ++ zs)
       ∙ ap (by_lane lane) (keep_append (λ x. leb n (beat x)) xs zs
       ∙ ap₂ ◌++◌ (keep_no (λ x. leb n (beat x)) xs (all_imp (Ranged lane beat to n) (λ x. leb n (beat x) ≡ false) xs (λ x r. lt-leb n (beat x) r.1) t.1))
-      (keep_yes (λ x. leb n (beat x)) zs (all_imp (λ x. n ≤ beat x) (λ x. leb n (beat x) ≡ true) zs (λ x h. le_leb n (beat x) h) (late n ys)))))
+      (keep_yes (λ x. leb n (beat x)) zs (all_imp (λ x. n ≤ beat x) (λ x. leb n (beat x) ≡ true) zs (λ x h. le-leb n (beat x) h) (late n ys)))))
       ∙ map-by_lane lane f zs (λ x. lane-to (beat x - n) x)
       ∙ ap (by_lane lane) (back_there m n ys u.1)
       ∙ tidy_by_lane lane beat to m ys u

@@ -1,12 +1,12 @@
 -- What the binding rules give: the three facts that all else uses, and cells as pieces.
 -- Assumes nothing.
 use Rattle.std.specs.Prelude.{Bool, ◌&&◌, ◌||◌, not, ◌≡◌, ◌+◌, ◌<◌, ◌≤◌, suc, ℕ, leb, ltb}
-use Rattle.std.proofs.Math.Bool.{cond, false, or_false, true}
+use Rattle.std.proofs.Math.Bool.{cond, false, or-false, true}
 use Rattle.std.proofs.Common.{true≢false, sym, arith}
 use mathlib.Core.List.{List, [], ◌∷◌}
 use Rattle.std.proofs.Math.Path.{refl}
 use Rattle.std.proofs.Math.Dec.{eqb}
-use borrow.Author.Tests.{eq_eqb, le_leb, leb_true, lt_ltb, ne_eqb}
+use borrow.Author.Tests.{eq-eqb, le-leb, leb-true, lt-ltb, ne_eqb}
 use Rattle.model.specs.Binding.{Piece, add_cell, bound, bound_next, end_of, fills, meet, opening, pieces, stands_alone, start_of}
 use Rattle.model.specs.Soundness.{filled}
 use Rattle.model.specs.Takes.{cell_to}
@@ -36,19 +36,19 @@ bound-opening H x (r ∷ rs) e = meet_open x r (and_left (meet x r) (bound H x r
 -- a cell at its note's end, or start, stands alone
 pub close_alone : (H : Header) (d : Cell) → d.side ≡ 1 → d.after ≡ 0 → stands_alone H d ≡ true
 unfolding stands_alone
-close_alone H d o a = rw o (or_right (leb H.epsilon d.before) (eq_eqb d.after 0 a))
+close_alone H d o a = rw o (or_right (leb H.epsilon d.before) (eq-eqb d.after 0 a))
 
 pub open_alone : (H : Header) (r : Cell) → opening r ≡ true → r.before ≡ 0 → stands_alone H r ≡ true
 unfolding stands_alone
-open_alone H r o a = rw o (or_right (leb H.epsilon r.after) (eq_eqb r.before 0 a))
+open_alone H r o a = rw o (or_right (leb H.epsilon r.after) (eq-eqb r.before 0 a))
 
 module _ (H : Header) (le : H.epsilon ≤ H.delta) where
   -- the cells of a piece that fills its beat stand alone
   pub fill_open_alone : (c : Cell) → fills H.delta c ≡ true → stands_alone H c ≡ true
   unfolding fills stands_alone
   fill_open_alone c e =
-      let a : H.delta ≤ c.after = leb_true H.delta c.after (and_right (opening c) (leb H.delta c.after) e) in
-      rw (and_left (opening c) (leb H.delta c.after) e) (or_left (eqb c.before 0) (le_leb H.epsilon c.after (omega arith)))
+      let a : H.delta ≤ c.after = leb-true H.delta c.after (and_right (opening c) (leb H.delta c.after) e) in
+      rw (and_left (opening c) (leb H.delta c.after) e) (or_left (eqb c.before 0) (le-leb H.epsilon c.after (omega arith)))
 
   pub fill_close_alone : (d : Cell) → filled H.delta d ≡ true → stands_alone H d ≡ true
   unfolding filled stands_alone
@@ -58,8 +58,8 @@ module _ (H : Header) (le : H.epsilon ≤ H.delta) where
           → cond o (leb H.epsilon d.after || eqb d.before 0) (leb H.epsilon d.before || eqb d.after 0) ≡ true
       go true f = absurd (true≢false (sym (and_left (not true) (leb H.delta d.before) (rw f at e))))
       go false f =
-          let a : H.delta ≤ d.before = leb_true H.delta d.before (and_right (not (opening d)) (leb H.delta d.before) e) in
-          or_left (eqb d.after 0) (le_leb H.epsilon d.before (omega arith))
+          let a : H.delta ≤ d.before = leb-true H.delta d.before (and_right (not (opening d)) (leb H.delta d.before) e) in
+          or_left (eqb d.after 0) (le-leb H.epsilon d.before (omega arith))
 
 -- cells with the same numbers, on both sides of a line inside a note, are bound
 pub same_bound : (H : Header) (c d : Cell) → c.before ≡ d.before → c.after ≡ d.after → 0 < c.after → 0 < d.before → bound H c d ≡ true
@@ -69,10 +69,10 @@ same_bound H c d p q a b = go (stands_alone H c) (stands_alone H d)
     go : (t u : Bool)
         → cond t (cond u (ltb 0 c.after && ltb 0 d.before) true)
         (cond u true (eqb c.before d.before && eqb c.after d.after || leb H.epsilon (c.before + d.after))) ≡ true
-    go true true = and_yes (lt_ltb 0 c.after a) (lt_ltb 0 d.before b)
+    go true true = and_yes (lt-ltb 0 c.after a) (lt-ltb 0 d.before b)
     go true false = refl
     go false true = refl
-    go false false = or_left (leb H.epsilon (c.before + d.after)) (and_yes (eq_eqb c.before d.before p) (eq_eqb c.after d.after q))
+    go false false = or_left (leb H.epsilon (c.before + d.after)) (and_yes (eq-eqb c.before d.before p) (eq-eqb c.after d.after q))
 
 -- a cell at its note's end and one at its note's start stand alone, and are not bound
 pub ends_free : (H : Header) (c d : Cell) → c.side ≡ 1 → c.after ≡ 0 → opening d ≡ true → d.before ≡ 0
@@ -113,18 +113,18 @@ pub data Pieced (δ : ℕ) : List Cell → Type 0 where
 
 module _ (δ : ℕ) (c d : Cell) (q : Pair δ c d) where
   pub pair_open : opening c ≡ true
-  pair_open = let o : c.side ≡ 0 = q.opens in eq_eqb c.side 0 o
+  pair_open = let o : c.side ≡ 0 = q.opens in eq-eqb c.side 0 o
 
   pub pair_close : opening d ≡ false
   pair_close = let o : d.side ≡ 1 = q.closes in ne_eqb d.side 0 (omega arith)
 
   pub pair_fills : fills δ c ≡ true
   unfolding fills
-  pair_fills = and_yes pair_open (le_leb δ c.after q.long)
+  pair_fills = and_yes pair_open (le-leb δ c.after q.long)
 
   pub pair_filled : filled δ d ≡ true
   unfolding filled
-  pair_filled = let b : d.before ≡ c.before + δ = q.before_is in rw pair_close (le_leb δ d.before (omega arith))
+  pair_filled = let b : d.before ≡ c.before + δ = q.before_is in rw pair_close (le-leb δ d.before (omega arith))
 
 -- A cell's own piece.
 unfoldable pub own : ℕ → Cell → Note
@@ -183,8 +183,8 @@ module _ (H : Header) where
   step_fill c d cs left e f g =
       rw (
         open_free c (d ∷ cs) f,
-        or_false (stands_alone H c || left),
-        or_false (stands_alone H d),
+        or-false (stands_alone H c || left),
+        or-false (stands_alone H d),
         add_single d (stands_alone H d || bound_next H d cs) (bound_next H d cs) (pieces H (bound_next H d cs) cs) (not_open H.delta d g),
         e,
         add_cell,

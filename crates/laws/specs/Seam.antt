@@ -7,7 +7,7 @@ use Prim.Native.Nat.{◌*◌, ◌+◌, ◌-◌, ◌<◌, suc, ℕ}
 use Rattle.std.proofs.Math.Decide.{ℕ_discrete}
 use Rattle.std.proofs.Common.{arith}
 use Rattle.std.proofs.Math.Dec.{eqb}
-use borrow.Author.Tests.{eq_eqb, eqb-true, ne_eqb}
+use borrow.Author.Tests.{eq-eqb, eqb-true, ne_eqb}
 use Rattle.model.specs.Binding.{bound, bound_next, end_of, meet, stands_alone, start_of}
 use Rattle.model.specs.Lists.{cons_if}
 use Rattle.model.specs.declared.Cell.{Cell}
@@ -123,14 +123,14 @@ module _ (H : Header) (k : ℕ) (c d : Cell) where
   pub bound_at_lem : (ds : List Cell) → c.lane ≡ d.lane → c.beat < k → bound_next H c (map (cell_later k) (d ∷ ds)) ≡ bound_at H k c d
   unfolding bound_next meet bound_at
   bound_at_lem ds l b =
-      rw (eq_eqb c.lane d.lane l, moved_bound H c.beat (k + d.beat) c d, line)
+      rw (eq-eqb c.lane d.lane l, moved_bound H c.beat (k + d.beat) c d, line)
       (go (eqb c.side 1) (eqb d.side 0) (eqb (suc c.beat) k) (eqb d.beat 0) (bound H c d))
     where
       line : eqb (k + d.beat) (suc c.beat) ≡ eqb (suc c.beat) k && eqb d.beat 0
       line = elim (ℕ_discrete (suc c.beat) k) [
         | yes e ↦ elim (ℕ_discrete d.beat 0) [
-          | yes f ↦ rw (eq_eqb (suc c.beat) k e, eq_eqb d.beat 0 f) (eq_eqb (k + d.beat) (suc c.beat) (omega arith))
-          | no f ↦ rw (eq_eqb (suc c.beat) k e, ne_eqb d.beat 0 f) (ne_eqb (k + d.beat) (suc c.beat) (omega arith))
+          | yes f ↦ rw (eq-eqb (suc c.beat) k e, eq-eqb d.beat 0 f) (eq-eqb (k + d.beat) (suc c.beat) (omega arith))
+          | no f ↦ rw (eq-eqb (suc c.beat) k e, ne_eqb d.beat 0 f) (ne_eqb (k + d.beat) (suc c.beat) (omega arith))
         ]
         | no e ↦ rw (ne_eqb (suc c.beat) k e) (ne_eqb (k + d.beat) (suc c.beat) (omega arith))
       ]
@@ -175,7 +175,7 @@ module _ (H : Header) (k : ℕ) (c d : Cell) where
   unfolding start_of
   line-start a =
       let m : d.beat * H.delta ≡ 0 * H.delta = ap (λ (b : ℕ). b * H.delta) a.first_beat in
-      rw (eq_eqb d.side 0 a.opens) (omega arith)
+      rw (eq-eqb d.side 0 a.opens) (omega arith)
 
   -- the cells' own pieces are the notes up to the line, and from it on
   pub own_ending : AtLine → own H.delta c ≡ ending_at (k * H.delta) c
@@ -189,4 +189,4 @@ module _ (H : Header) (k : ℕ) (c d : Cell) where
   unfolding own start_of end_of
   own_starting a =
       let m : d.beat * H.delta ≡ 0 * H.delta = ap (λ (b : ℕ). b * H.delta) a.first_beat in
-      rw (eq_eqb d.side 0 a.opens) (note_same refl (omega arith) (omega arith) refl)
+      rw (eq-eqb d.side 0 a.opens) (note_same refl (omega arith) (omega arith) refl)

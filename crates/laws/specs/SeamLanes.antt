@@ -3,7 +3,7 @@
 use Rattle.std.specs.Prelude.{Bool, ◌||◌, ◌≡◌, ◌+◌, ◌<◌, ◌≤◌, suc, zero, ℕ, eqb, leb}
 use Rattle.std.proofs.Math.Bool.{false, true}
 use mathlib.Core.List.{List, [], ◌++◌, ◌∷◌, map}
-use Rattle.std.proofs.Common.{◌∙◌, ap₂, sym, arith, eq_eqb, eqb-true, le_leb, leb_true, leb-false, ne_eqb}
+use Rattle.std.proofs.Common.{◌∙◌, ap₂, sym, arith, eq-eqb, eqb-true, le-leb, leb-true, leb-false, ne_eqb}
 use Rattle.std.proofs.Math.Path.{ap, refl}
 use Rattle.std.proofs.lemmas.Bool.{lt-leb}
 use Rattle.model.specs.Binding.{bound_next, meet, stands_alone}
@@ -57,7 +57,7 @@ module _ (s : ℕ) where
   leb_later a b = go (leb a b) refl
     where
       go : (t : Bool) → leb a b ≡ t → leb (a + s) (b + s) ≡ t
-      go true e = let h : a ≤ b = leb_true a b e in le_leb (a + s) (b + s) (omega arith)
+      go true e = let h : a ≤ b = leb-true a b e in le-leb (a + s) (b + s) (omega arith)
       go false e = let h : b < a = leb-false a b e in lt-leb (a + s) (b + s) (omega arith)
 
   before_later : (m n : Note) → note_before (note_later s m) (note_later s n) ≡ note_before m n
@@ -211,4 +211,4 @@ module _ (H : Header) (z : 0 < H.delta) (le : H.epsilon ≤ H.delta) where
         ∙ keep-gather (λ n. eqb n.lane l) (λ m. notes_of H (lane_of m t)) lanes
         ∙ gather-one (λ m. notes_at l (notes_of H (lane_of m t))) 2048 0 l (omega arith) (omega arith)
         (λ m d. keep_no (λ n. eqb n.lane l) (notes_of H (lane_of m t)) (all_imp (λ n. n.lane ≡ m) (λ n. eqb n.lane l ≡ false) (notes_of H (lane_of m t)) (λ n e. ne_eqb n.lane l (λ f. d (sym e ∙ f))) (lane_notes_on m)))
-        ∙ keep_yes (λ n. eqb n.lane l) (notes_of H (lane_of l t)) (all_imp (λ n. n.lane ≡ l) (λ n. eqb n.lane l ≡ true) (notes_of H (lane_of l t)) (λ n. eq_eqb n.lane l) (lane_notes_on l))
+        ∙ keep_yes (λ n. eqb n.lane l) (notes_of H (lane_of l t)) (all_imp (λ n. n.lane ≡ l) (λ n. eqb n.lane l ≡ true) (notes_of H (lane_of l t)) (λ n. eq-eqb n.lane l) (lane_notes_on l))

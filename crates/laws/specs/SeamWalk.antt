@@ -1,13 +1,13 @@
 -- The notes of two lists of cells, one behind the other, from the notes of each; and the notes of cells some beats later.
 -- Assumes nothing.
 use Rattle.std.specs.Prelude.{Bool, ◌||◌, ◌*◌, ◌+◌, ◌-◌, ◌<◌, ◌≤◌, suc, ℕ}
-use Rattle.std.proofs.Math.Bool.{◌&&◌, cond, false, or_false, true}
+use Rattle.std.proofs.Math.Bool.{◌&&◌, cond, false, or-false, true}
 use Rattle.std.proofs.Common.{true≢false, ◌∙◌, add-mul, arith}
 use mathlib.Core.List.{List, [], ◌++◌, ◌∷◌, map}
 use Rattle.std.proofs.Math.Path.{◌≡◌, ap, ap₂, refl, sym}
 use Rattle.std.proofs.Math.Decide.{ℕ_discrete}
 use Rattle.std.proofs.Math.Dec.{eqb}
-use borrow.Author.Tests.{eq_eqb, eqb-true, leb-false, ne_eqb}
+use borrow.Author.Tests.{eq-eqb, eqb-true, leb-false, ne_eqb}
 use Rattle.model.specs.Binding.{bound_next, end_of, fills, go_on, meet, opening, stands_alone, start_of}
 use Rattle.model.specs.Lists.{cons_if}
 use Rattle.model.specs.Soundness.{filled}
@@ -39,7 +39,7 @@ module _ (H : Header) (k : ℕ) where
     where
       go : eqb (k + d.beat) (suc (k + c.beat)) ≡ eqb d.beat (suc c.beat)
       go = elim (ℕ_discrete d.beat (suc c.beat)) [
-        | yes e ↦ eq_eqb (k + d.beat) (suc (k + c.beat)) (omega arith) ∙ sym (eq_eqb d.beat (suc c.beat) e)
+        | yes e ↦ eq-eqb (k + d.beat) (suc (k + c.beat)) (omega arith) ∙ sym (eq-eqb d.beat (suc c.beat) e)
         | no e ↦ ne_eqb (k + d.beat) (suc (k + c.beat)) (omega arith) ∙ sym (ne_eqb d.beat (suc c.beat) e)
       ]
 
@@ -146,7 +146,7 @@ module _ (H : Header) (le : H.epsilon ≤ H.delta) where
         note = own H.delta d;
         rest = walk H false ds;
         held = walk_single H d ds true f ∙ rw (b, or_right (stands_alone H d) {b = true} refl);
-        unheld = walk_single H d ds false f ∙ rw (b, or_false (stands_alone H d)) (cons_cond (stands_alone H d) (own H.delta d) (walk H false ds));
+        unheld = walk_single H d ds false f ∙ rw (b, or-false (stands_alone H d)) (cons_cond (stands_alone H d) (own H.delta d) (walk H false ds));
         start_is = unfold own in refl;
         short = λ e. refl;
       }
@@ -268,7 +268,7 @@ module _ (H : Header) (le : H.epsilon ≤ H.delta) where
         where
           unheld : (held : Bool) → (held ≡ true → opening c ≡ true) → stands_alone H c || held ≡ stands_alone H c
           unheld true o = absurd (true≢false (sym e ∙ open_free H c bs (eqb-true c.side 0 (o refl))))
-          unheld false o = or_false (stands_alone H c)
+          unheld false o = or-false (stands_alone H c)
       goes (single {c = c} {cs = r ∷ rs} f g p) e w held o =
           let b = bound_next H c (r ∷ rs) in
           more_goes held (last_or r rs) (c ∷ r ∷ rs) (r ∷ rs) (own H.delta c) b (stands_alone H c || held)

@@ -2,7 +2,7 @@
 -- Assumes nothing.
 use Rattle.std.specs.Prelude.{true, ◌≡◌, refl, drop, get_or, replicate, set, take}
 use mathlib.Core.List.{List, [], ◌++◌, ◌∷◌, append_assoc}
-use Rattle.std.proofs.Common.{◌∙◌, ap, sym, length-append, take_at, leb_true}
+use Rattle.std.proofs.Common.{◌∙◌, ap, sym, length-append, take_at, leb-true}
 use Prim.Native.Nat.{◌*◌, ◌+◌, ◌-◌, ◌<◌, ◌≤◌, suc, zero, ℕ}
 use Rattle.std.proofs.Math.Nat.{mul-le-mul_right}
 use native.Mathlib.Omega.{arith}
@@ -130,4 +130,4 @@ length-shelf_words W beats ns cs h = simp (length-append, length-replicate, leng
 
 pub length_words : (H : Header) (t : Take) → fits H t ≡ true → length (words_of H t) ≡ H.words
 unfolding fits words_of
-length_words H t e = length-shelf_words H.words t.beats (notes_of H t) t.cells (leb_true (words_used (length (notes_of H t)) (length t.cells)) H.words e)
+length_words H t e = length-shelf_words H.words t.beats (notes_of H t) t.cells (leb-true (words_used (length (notes_of H t)) (length t.cells)) H.words e)

@@ -3,7 +3,7 @@
 use Rattle.std.specs.Prelude.{Bool, ◌&&◌, ◌≡◌, ◌*◌, ◌+◌, ◌<◌, ◌≤◌, suc, ℕ, leb, ltb}
 use Rattle.std.proofs.Math.Bool.{cond, false, true}
 use Rattle.std.proofs.Math.Path.{refl}
-use borrow.Author.Tests.{le_leb, leb_true, lt_ltb, ltb-true}
+use borrow.Author.Tests.{le-leb, leb-true, lt-ltb, ltb-true}
 use Rattle.model.specs.Binding.{fills, opening}
 use Rattle.model.specs.Limits.{velocity_ok}
 use Rattle.model.specs.Pieces.{first_beat, inside}
@@ -38,9 +38,9 @@ fine δ beats c e m k =
     record {
       lane_below = ltb-true c.lane 2048 (and_left a b e2);
       beat_below = ltb-true c.beat beats (and_right a b e2);
-      side_below = leb_true c.side 1 (and_right (a && b) s e3);
+      side_below = leb-true c.side 1 (and_right (a && b) s e3);
       loud = and_right (a && b && s) v e;
-      sum = leb_true (c.before + c.after) (4096 * δ) m;
+      sum = leb-true (c.before + c.after) (4096 * δ) m;
       open_ticks = λ o. ltb-true 0 c.after (rw o at k);
       close_ticks = λ o. ltb-true 0 c.before (rw o at k);
     }
@@ -48,19 +48,19 @@ fine δ beats c e m k =
 module _ (δ beats : ℕ) (c : Cell) (f : Fine δ beats c) where
   pub fine_range : cell_in_range beats c ≡ true
   unfolding cell_in_range
-  fine_range = and_yes (and_yes (and_yes (lt_ltb c.lane 2048 f.lane_below) (lt_ltb c.beat beats f.beat_below)) (le_leb c.side 1 f.side_below)) f.loud
+  fine_range = and_yes (and_yes (and_yes (lt-ltb c.lane 2048 f.lane_below) (lt-ltb c.beat beats f.beat_below)) (le-leb c.side 1 f.side_below)) f.loud
 
   pub fine_memory : memory_within δ c ≡ true
   unfolding memory_within
-  fine_memory = le_leb (c.before + c.after) (4096 * δ) f.sum
+  fine_memory = le-leb (c.before + c.after) (4096 * δ) f.sum
 
   pub fine_ticks : has_ticks c ≡ true
   unfolding has_ticks
   fine_ticks = go (opening c) refl
     where
       go : (o : Bool) → opening c ≡ o → cond o (ltb 0 c.after) (ltb 0 c.before) ≡ true
-      go true e = lt_ltb 0 c.after (f.open_ticks e)
-      go false e = lt_ltb 0 c.before (f.close_ticks e)
+      go true e = lt-ltb 0 c.after (f.open_ticks e)
+      go false e = lt-ltb 0 c.before (f.close_ticks e)
 
 -- c lies before d, and two pieces of one beat do not overlap.
 pub data Apart (δ : ℕ) (c d : Cell) : Type 0 where

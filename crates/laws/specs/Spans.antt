@@ -7,7 +7,7 @@ use Rattle.std.proofs.Math.Path.{refl}
 use Prim.Native.Nat.{◌*◌, ◌+◌, ◌<◌, ◌≤◌, suc, ℕ}
 use Rattle.std.proofs.Math.Decide.{dec_le, ℕ_discrete}
 use native.Mathlib.Omega.{arith}
-use borrow.Author.Tests.{eq_eqb, leb-false, ne_eqb}
+use borrow.Author.Tests.{eq-eqb, leb-false, ne_eqb}
 use Rattle.model.specs.Binding.{end_of, fills, opening, start_of}
 use Rattle.model.specs.Pieces.{first_beat}
 use Rattle.model.specs.Soundness.{filled}
@@ -79,7 +79,7 @@ module _ (δ beats : ℕ) (z : 0 < δ) where
 
   side_lines : (c e : Cell) → c.beat ≡ e.beat → c.side ≡ 0 → e.side ≡ 1 → c.after + e.before ≤ δ → end_of δ c ≤ start_of δ e
   unfolding start_of end_of
-  side_lines c e b o p j = rw (eq_eqb c.side 0 o, ne_eqb e.side 0 (omega arith), b) (omega arith)
+  side_lines c e b o p j = rw (eq-eqb c.side 0 o, ne_eqb e.side 0 (omega arith), b) (omega arith)
 
   pub single_gap : (c e : Cell) → fills δ c ≡ false → filled δ c ≡ false → Fine δ beats c → e.beat * δ ≤ start_of δ e → Apart δ c e
       → (c.lane ≤ e.lane) × (e.lane ≡ c.lane → end_of δ c ≤ start_of δ e)

@@ -2,7 +2,7 @@
 -- Assumes nothing.
 use Rattle.std.specs.Prelude.{◌&&◌, true, ◌≡◌, ◌*◌, ◌+◌, ◌<◌, ◌≤◌, ℕ, eqb, leb, get_or, set}
 use mathlib.Core.List.{List, [], ◌∷◌, map, map-map}
-use Rattle.std.proofs.Common.{◌∙◌, arith, eqb-true, leb_true}
+use Rattle.std.proofs.Common.{◌∙◌, arith, eqb-true, leb-true}
 use Rattle.std.proofs.Math.Path.{ap, ap₂, refl, sym}
 use Rattle.std.proofs.Math.ListN.{length, length-set}
 use Rattle.model.specs.Histories.{Recording, history_take, history_words}
@@ -45,9 +45,9 @@ ranges H len e =
     let e7 = and_left (a && b && c && d && f && g && h) i e8 in
     let e4 = and_left (a && b && c && d) f (and_left (a && b && c && d && f) g (and_left (a && b && c && d && f && g) h e7)) in
     record {
-      positive = leb_true 1 H.delta (and_left a b (and_left (a && b) c (and_left (a && b && c) d e4)));
-      small = leb_true H.epsilon H.delta (and_right (a && b && c) d e4);
-      room = leb_true 3 H.words (and_right (a && b && c && d && f && g) h e7);
+      positive = leb-true 1 H.delta (and_left a b (and_left (a && b) c (and_left (a && b && c) d e4)));
+      small = leb-true H.epsilon H.delta (and_right (a && b && c) d e4);
+      room = leb-true 3 H.words (and_right (a && b && c && d && f && g) h e7);
       exact = eqb-true len (4 + H.shelves * H.words) (and_right (a && b && c && d && f && g && h && i) j e);
     }
 

@@ -9,7 +9,7 @@ use Prim.Native.Nat.{◌*◌, ◌+◌, ◌<◌, ◌≤◌, suc, ℕ}
 use Rattle.std.proofs.Math.Nat.{mul-le-mul_right}
 use native.Mathlib.Omega.{arith}
 use Rattle.std.proofs.Math.Dec.{eqb, ltb}
-use borrow.Author.Tests.{eq_eqb, eqb-true, ltb-false, ltb-true}
+use borrow.Author.Tests.{eq-eqb, eqb-true, ltb-false, ltb-true}
 use Rattle.model.specs.Binding.{end_of, opening}
 use Rattle.model.specs.Lists.{every}
 use Rattle.model.specs.Pieces.{first_beat}
@@ -75,7 +75,7 @@ module _ (δ : ℕ) (z : 0 < δ) where
       go true p q = absurd (true≢false q)
       go false p q =
           let k : l ≤ c.lane = ltb-false c.lane l p in
-          record { lane-from = k; beat_from = λ f. ltb-false c.beat b (rw (eq_eqb c.lane l (sym f)) at q) }
+          record { lane-from = k; beat_from = λ f. ltb-false c.beat b (rw (eq-eqb c.lane l (sym f)) at q) }
 
   -- the note's own and later beats
   record NoteFrom (l b : ℕ) (m : Note) : Type 0 where
@@ -101,17 +101,17 @@ module _ (δ : ℕ) (z : 0 < δ) where
       go p q (side_up g h s t u) (beat_up i j) = let k : first_beat δ n ≤ c.beat = f.beat_from (omega arith) in omega arith
       go p q (side_up g h s t u) (side_up i j v w y) = omega arith
 
-  and_true : (a : Bool) → a && true ≡ a
-  and_true true = refl
-  and_true false = refl
+  and-true : (a : Bool) → a && true ≡ a
+  and-true true = refl
+  and-true false = refl
 
   two_all : (n : Note) (c : Cell) (cs : List Cell) → From n.lane (first_beat δ n) c → Pairs (Apart δ) (c ∷ cs)
       → every (clear δ n) (c ∷ cs) ≡ clear_two δ n (c ∷ cs)
   unfolding clear_two
-  two_all n c [] f s = and_true (clear δ n c)
+  two_all n c [] f s = and-true (clear δ n c)
   two_all n c (d ∷ ds) f s =
       let e : every (clear δ n) ds ≡ true = every_yes (clear δ n) ds (all_imp (Apart δ d) (λ x. clear δ n x ≡ true) ds (λ x a. third_clear n c d x f s.0.0 a) s.1.0) in
-      ap (λ (t : Bool). clear δ n c && (clear δ n d && t)) e ∙ ap (◌&&◌ (clear δ n c)) (and_true (clear δ n d))
+      ap (λ (t : Bool). clear δ n c && (clear δ n d && t)) e ∙ ap (◌&&◌ (clear δ n c)) (and-true (clear δ n d))
 
   own-from : (n : Note) → NoteFrom n.lane (first_beat δ n) n
   own-from n = record { lane-from = omega arith; beat_from = λ e. omega arith }

@@ -1,7 +1,7 @@
 -- The notes of cells by one walk over them; bound pieces, and pieces that fill their beat, are shown.
 -- Assumes nothing.
 use Rattle.std.specs.Prelude.{Bool, ◌||◌, ◌≤◌, ℕ}
-use Rattle.std.proofs.Math.Bool.{cond, false, or_false, true}
+use Rattle.std.proofs.Math.Bool.{cond, false, or-false, true}
 use Rattle.std.proofs.Common.{true≢false, ◌∙◌, ap, sym}
 use mathlib.Core.List.{List, [], ◌∷◌}
 use Rattle.std.proofs.Math.Option.{Option, none, some}
@@ -56,7 +56,7 @@ module _ (H : Header) (le : H.epsilon ≤ H.delta) where
       go : (b : Bool) → bound_next H c cs ≡ b → runs (pieces H (bound_next H c cs) cs) ≡ walk H (bound_next H c cs) cs
           → runs (pieces H left (c ∷ cs)) ≡ walk H left (c ∷ cs)
       go true e ih = rw (step_single H c cs left f, f, e, or_right (stands_alone H c || left) {b = true} refl, next_shown c cs p e) (ap (go_on (own H.delta c)) (rw e at ih))
-      go false e ih = rw (step_single H c cs left f, f, e, or_false (stands_alone H c || left)) (ap (λ (ns : List Note). cond (stands_alone H c || left) (own H.delta c ∷ ns) ns) (rw e at ih))
+      go false e ih = rw (step_single H c cs left f, f, e, or-false (stands_alone H c || left)) (ap (λ (ns : List Note). cond (stands_alone H c || left) (own H.delta c ∷ ns) ns) (rw e at ih))
   walk-runs (double {c = c} {d = d} {cs = cs} q p) left = go (bound_next H d cs) refl (walk-runs p (bound_next H d cs))
     where
       sc : stands_alone H c ≡ true

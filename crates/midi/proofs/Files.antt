@@ -6,7 +6,7 @@ use Prim.Native.Nat.{ℕ, zero, suc, ◌+◌, ◌-◌, ◌≤◌}
 use native.Mathlib.Omega.{arith}
 use lib.Dec.{leb, eqb}
 use lib.ListN.{length, take, drop}
-use borrow.Author.Tests.{eqb-true, leb_true}
+use borrow.Author.Tests.{eqb-true, leb-true}
 use Rattle.laws.specs.Booleans.{and_left, and_right}
 use Rattle.midi.specs.Numbers.{word32}
 use Rattle.midi.specs.Reading.{read_track, MThd, MTrk, header_there, header_fits, chunk_there, Chunk, no_track, track, track_from, read_file}
@@ -32,10 +32,10 @@ header_there_lem s e =
     let abc = and_left (a && b && c) d e in
     let ab = and_left (a && b) c abc in
     record {
-      some = leb_true 8 (length s) (and_left a b ab);
+      some = leb-true 8 (length s) (and_left a b ab);
       name = eqb-true (word32 s 0) MThd (and_right a b ab);
-      long = leb_true 6 (word32 s 4) (and_right (a && b) c abc);
-      inside = leb_true (8 + word32 s 4) (length s) (and_right (a && b && c) d e);
+      long = leb-true 6 (word32 s 4) (and_right (a && b) c abc);
+      inside = leb-true (8 + word32 s 4) (length s) (and_right (a && b && c) d e);
     }
 
 -- ---- the chunks
@@ -43,7 +43,7 @@ header_there_lem s e =
 pub chunk_inside : (s : List ℕ) (at : ℕ) → chunk_there s at ≡ true → at + 8 + word32 s (at + 4) ≤ length s
 unfolding chunk_there
 chunk_inside s at e =
-    leb_true (at + 8 + word32 s (at + 4)) (length s)
+    leb-true (at + 8 + word32 s (at + 4)) (length s)
     (and_right (leb (at + 8) (length s)) (leb (at + 8 + word32 s (at + 4)) (length s)) e)
 
 abbrev Within : List ℕ → ℕ → Chunk → Type 0

@@ -9,7 +9,7 @@ use lib.Count.{count_leading_zeros, leading_top}
 use lib.Dec.{ltb}
 use lib.ListN.{length}
 use lib.Pow.{pow_mono}
-use borrow.Author.Tests.{le_ltb, lt_ltb, ltb-true, ltb-false}
+use borrow.Author.Tests.{le-ltb, lt-ltb, ltb-true, ltb-false}
 use Rattle.midi.specs.Numbers.{quantity_bytes}
 use Rattle.midi.proofs.Branches.{by_test}
 
@@ -33,20 +33,20 @@ quantity_fewest n =
 
 pub one_group : (n : ℕ) → n < 128 → quantity_bytes n ≡ n ∷ []
 unfolding quantity_bytes
-one_group n h = rw (lt_ltb n 128 h, quantity_bytes)
+one_group n h = rw (lt-ltb n 128 h, quantity_bytes)
 
 pub two_groups : (n : ℕ) → 128 ≤ n → n < 16384 → quantity_bytes n ≡ (128 + n / 128) ∷ n % 128 ∷ []
 unfolding quantity_bytes
-two_groups n a b = rw (le_ltb n 128 a, quantity_bytes, lt_ltb n 16384 b)
+two_groups n a b = rw (le-ltb n 128 a, quantity_bytes, lt-ltb n 16384 b)
 
 pub three_groups : (n : ℕ) → 16384 ≤ n → n < 2097152 → quantity_bytes n ≡ (128 + n / 16384) ∷ (128 + n / 128 % 128) ∷ n % 128 ∷ []
 unfolding quantity_bytes
-three_groups n a b = rw (le_ltb n 128 (omega arith), quantity_bytes, le_ltb n 16384 a, lt_ltb n 2097152 b)
+three_groups n a b = rw (le-ltb n 128 (omega arith), quantity_bytes, le-ltb n 16384 a, lt-ltb n 2097152 b)
 
 pub four_groups : (n : ℕ) → 2097152 ≤ n
     → quantity_bytes n ≡ (128 + n / 2097152) ∷ (128 + n / 16384 % 128) ∷ (128 + n / 128 % 128) ∷ n % 128 ∷ []
 unfolding quantity_bytes
-four_groups n a = rw (le_ltb n 128 (omega arith), quantity_bytes, le_ltb n 16384 (omega arith), le_ltb n 2097152 a)
+four_groups n a = rw (le-ltb n 128 (omega arith), quantity_bytes, le-ltb n 16384 (omega arith), le-ltb n 2097152 a)
 
 -- what a count of groups says of the number
 pub record Counted (n : ℕ) (bs : List ℕ) : Type 0 where

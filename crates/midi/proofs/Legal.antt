@@ -7,7 +7,7 @@ use Prim.Native.Nat.{ℕ, zero, suc, ◌+◌, ◌-◌, ◌*◌, ◌/◌, ◌≤�
 use native.Mathlib.Omega.{arith}
 use lib.Dec.{leb, ltb, eqb}
 use lib.ListN.{length, get_or}
-use borrow.Author.Tests.{eqb-false, leb_true, ltb-true}
+use borrow.Author.Tests.{eqb-false, leb-true, ltb-true}
 use Rattle.laws.specs.Booleans.{and_left, and_right}
 use Rattle.midi.specs.Numbers.{Quantity, no_quantity, quantity, quantity_from, quantity_at}
 use Rattle.midi.specs.Events.{
@@ -115,7 +115,7 @@ module _ (s : List ℕ) (p : Place) where
       (λ n r f. by_test (Legal s p) (leb (r + n) (length s))
       (λ g. by_test (Legal s p) (eqb (get_or s q 0) 47)
       (λ i. by_test (Legal s p) (eqb n 0 && eqb r (length s)) (λ j. k) (λ j. tt))
-      (λ i. passed_legal (suc q) n r f (omega arith) tick k (leb_true (r + n) (length s) g)))
+      (λ i. passed_legal (suc q) n r f (omega arith) tick k (leb-true (r + n) (length s) g)))
       (λ g. tt)))
       (λ e. tt)
 
@@ -123,7 +123,7 @@ module _ (s : List ℕ) (p : Place) where
   unfolding sysex_at
   sysex_legal tick q h k =
       by_quantity (Legal s p) (quantity_at s q) tt
-      (λ n r f. by_test (Legal s p) (leb (r + n) (length s)) (λ g. passed_legal q n r f h tick k (leb_true (r + n) (length s) g)) (λ g. tt))
+      (λ n r f. by_test (Legal s p) (leb (r + n) (length s)) (λ g. passed_legal q n r f h tick k (leb-true (r + n) (length s) g)) (λ g. tt))
 
   own_legal : (tick b q : ℕ) → p.at < q → p.tick ≤ tick → Legal s p (own_status s tick b q)
   unfolding own_status

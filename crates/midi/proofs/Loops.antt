@@ -7,7 +7,7 @@ use Prim.Native.Nat.{ℕ, zero, suc, ◌+◌, ◌-◌, ◌≤◌, ◌<◌}
 use native.Mathlib.Omega.{arith}
 use lib.Dec.{leb, eqb}
 use lib.ListN.{length}
-use borrow.Author.Tests.{eq_eqb, le_leb, lt-leb, ne_eqb}
+use borrow.Author.Tests.{eq-eqb, le-leb, lt-leb, ne_eqb}
 use Rattle.model.specs.declared.Note.{Note}
 use Rattle.midi.specs.Lanes.{lane_at}
 use Rattle.midi.specs.Numbers.{word32}
@@ -106,7 +106,7 @@ module _ (δ : ℕ) (s : List ℕ) (p : Place) (t : Sounding) (notes : List Note
 
   pub finish_read : (tick : ℕ) → event_at s p ≡ finished tick → tick ≤ latest δ → read_track δ s ≡ read (recorded δ tick t notes)
   unfolding after
-  finish_read tick f h = one (finished tick) f ∙ rw (le_leb tick (latest δ) h, after)
+  finish_read tick f h = one (finished tick) f ∙ rw (le-leb tick (latest δ) h, after)
 
   pub finish_on : (tick : ℕ) → event_at s p ≡ finished tick → p.tick ≤ tick
   finish_on tick f = facts (finished tick) f
@@ -130,7 +130,7 @@ module _ (δ : ℕ) (s : List ℕ) (p : Place) (t : Sounding) (notes : List Note
     -- a start in a lane that is not silent
     pub event_clash : q.tick ≤ latest δ → play q.tick m t notes ≡ clash → read_track δ s ≡ refused 14
     unfolding after
-    event_clash h c = one (event q m) f ∙ rw (le_leb q.tick (latest δ) h, after, c)
+    event_clash h c = one (event q m) f ∙ rw (le-leb q.tick (latest δ) h, after, c)
 
     -- the next event
     pub event_next : (u : Sounding) (out : List Note) → q.tick ≤ latest δ → play q.tick m t notes ≡ played u out → Left δ s q u out
@@ -138,7 +138,7 @@ module _ (δ : ℕ) (s : List ℕ) (p : Place) (t : Sounding) (notes : List Note
     event_next u out h c = record {
       inside = event_moves.in_track;
       early = h;
-      same = one (event q m) f ∙ rw (le_leb q.tick (latest δ) h, after, c);
+      same = one (event q m) f ∙ rw (le-leb q.tick (latest δ) h, after, c);
     }
 
 -- What a message does, by its kind.
@@ -150,7 +150,7 @@ play_clash tick lane velocity t notes d = rw (ne_eqb (lane_at t.velocity lane) 0
 pub play-start : (tick lane velocity : ℕ) (t : Sounding) (notes : List Note) → lane_at t.velocity lane ≡ 0
     → play tick (starts lane velocity) t notes ≡ played (start_lane t lane tick velocity) notes
 unfolding play
-play-start tick lane velocity t notes z = rw (eq_eqb (lane_at t.velocity lane) 0 z, play)
+play-start tick lane velocity t notes z = rw (eq-eqb (lane_at t.velocity lane) 0 z, play)
 
 pub play_end : (tick lane : ℕ) (t : Sounding) (notes : List Note)
     → play tick (ends lane) t notes ≡ played (stop_lane t lane) (notes ++ ended_lane t tick lane)

@@ -6,7 +6,7 @@ use Prim.Native.Nat.{ℕ, ◌≤◌, ◌<◌}
 use native.Mathlib.Decide.{ℕ_discrete}
 use native.Mathlib.Omega.{arith}
 use lib.Dec.{eqb}
-use borrow.Author.Tests.{lt_ltb, eq_eqb, ne_eqb}
+use borrow.Author.Tests.{lt-ltb, eq-eqb, ne_eqb}
 use Rattle.model.specs.Lists.{cons_if, keep, gather}
 use Rattle.model.specs.declared.Note.{Note}
 use Rattle.laws.specs.Lists.{keep_append}
@@ -93,7 +93,7 @@ done_nil t out todo s = record {
 
 -- The lane's own events.
 own : (e : NoteEvent) (es : List NoteEvent) → lane_events e.lane (e ∷ es) ≡ e ∷ lane_events e.lane es
-own e es = rw (eq_eqb e.lane e.lane refl)
+own e es = rw (eq-eqb e.lane e.lane refl)
 
 module _ (m : NoteEvent) (ms : List NoteEvent) (t : Sounding) (out : List Note) (todo : ℕ → List Note) (s : Before (m ∷ ms) t todo) where
   -- the first event starts a note
@@ -141,12 +141,12 @@ module _ (m : NoteEvent) (ms : List NoteEvent) (t : Sounding) (out : List Note) 
   }
     where
       fine : (l : ℕ) → l < 2048 → Dec (l ≡ m.lane) → All (Good l) (left ns l)
-      fine l h (yes d) = rw (d, eq_eqb m.lane m.lane refl) g
+      fine l h (yes d) = rw (d, eq-eqb m.lane m.lane refl) g
       fine l h (no d) = rw (ne_eqb l m.lane d) (s.good l h)
 
       go : (l : ℕ) → l < 2048 → Dec (l ≡ m.lane)
           → Ready l (lane_at t.start l) (lane_at (put_lane t.velocity m.lane 0) l) (lane_events l ms) (left ns l)
-      go l h (yes d) = rw (d, lane-put t.velocity s.velocities m.lane 0 s.low.0, eq_eqb m.lane m.lane refl) (rests refl e)
+      go l h (yes d) = rw (d, lane-put t.velocity s.velocities m.lane 0 s.low.0, eq-eqb m.lane m.lane refl) (rests refl e)
       go l h (no d) =
           rw (lane_other t.velocity s.velocities m.lane 0 s.low.0 l d, ne_eqb l m.lane d)
           (rw (ne_eqb m.lane l (λ e. d (sym e))) at (s.ready l h))
@@ -157,7 +157,7 @@ module _ (m : NoteEvent) (ms : List NoteEvent) (t : Sounding) (out : List Note) 
   close_lane n ns e f l = rw (keep_append (λ x. eqb x.lane l) out (n ∷ [])) (go (ℕ_discrete l m.lane))
     where
       go : Dec (l ≡ m.lane) → (lane_notes l out ++ cons_if (eqb n.lane l) n []) ++ left ns l ≡ lane_notes l out ++ todo l
-      go (yes d) = rw (d, eq_eqb n.lane m.lane e, eq_eqb m.lane m.lane refl, f, append_assoc)
+      go (yes d) = rw (d, eq-eqb n.lane m.lane e, eq-eqb m.lane m.lane refl, f, append_assoc)
       go (no d) = rw (ne_eqb n.lane l (λ k. d (sym k ∙ e)), ne_eqb l m.lane d, append-nil)
 
   open_done : (n : Note) → lane_at t.velocity m.lane ≡ 0 → m ≡ start_of n
@@ -187,13 +187,13 @@ module _ (m : NoteEvent) (ms : List NoteEvent) (t : Sounding) (out : List Note) 
   }
     where
       is_end : message_of m ≡ ends m.lane
-      is_end = rw (eq_eqb m.kind 0 (ap (λ (x : NoteEvent). x.kind) e), message_of)
+      is_end = rw (eq-eqb m.kind 0 (ap (λ (x : NoteEvent). x.kind) e), message_of)
 
       at : m.tick ≡ end
       at = ap (λ (x : NoteEvent). x.tick) e
 
       gives : ended_lane t m.tick m.lane ≡ note_at m.lane (lane_at t.start m.lane) end (lane_at t.velocity m.lane) ∷ []
-      gives = rw (at, lt_ltb 0 (lane_at t.velocity m.lane) p, ended, lt_ltb (lane_at t.start m.lane) end q)
+      gives = rw (at, lt-ltb 0 (lane_at t.velocity m.lane) p, ended, lt-ltb (lane_at t.start m.lane) end q)
 
 pub play-lanes : (ms : List NoteEvent) (t : Sounding) (out : List Note) (todo : ℕ → List Note) → Before ms t todo → Done ms t out todo
 play-lanes [] t out todo s = done_nil t out todo s

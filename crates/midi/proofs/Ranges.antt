@@ -5,7 +5,7 @@ use mathlib.Core.Bool.{true}
 use Prim.Native.Nat.{ℕ, ◌*◌, ◌≤◌, ◌<◌}
 use native.Mathlib.Omega.{arith}
 use lib.Dec.{leb}
-use borrow.Author.Tests.{le_leb, leb_true}
+use borrow.Author.Tests.{le-leb, leb-true}
 use Rattle.model.specs.Limits.{velocity_ok}
 use Rattle.model.specs.Soundness.{notes_ok}
 use Rattle.model.specs.declared.Note.{Note}
@@ -31,8 +31,8 @@ module _ (δ beats : ℕ) where
     low = f.lane_below;
     long = f.order;
     within = f.fits;
-    loud = leb_true 1 n.velocity (and_left (leb 1 n.velocity) (leb n.velocity 127) f.loud);
-    soft = leb_true n.velocity 127 (and_right (leb 1 n.velocity) (leb n.velocity 127) f.loud);
+    loud = leb-true 1 n.velocity (and_left (leb 1 n.velocity) (leb n.velocity 127) f.loud);
+    soft = leb-true n.velocity 127 (and_right (leb 1 n.velocity) (leb n.velocity 127) f.loud);
   }
 
   fits_fair : (n : Note) → Fits (beats * δ) n → Fair δ beats n
@@ -41,7 +41,7 @@ module _ (δ beats : ℕ) where
     lane_below = f.low;
     order = f.long;
     fits = f.within;
-    loud = and_yes (le_leb 1 n.velocity f.loud) (le_leb n.velocity 127 f.soft);
+    loud = and_yes (le-leb 1 n.velocity f.loud) (le-leb n.velocity 127 f.soft);
   }
 
   pub ok_fits : (ns : List Note) → notes_ok δ beats ns ≡ true → All (Fits (beats * δ)) ns

@@ -7,7 +7,7 @@ use native.Mathlib.Omega.{arith}
 use lib.Dec.{ltb, eqb}
 use lib.ListN.{length, get_or, drop, length-drop}
 use lib.Seq.{drop-drop, drop-append_seam}
-use borrow.Author.Tests.{lt_ltb, le_ltb, le_leb, eq_eqb, ne_eqb, ltb-true}
+use borrow.Author.Tests.{lt-ltb, le-ltb, le-leb, eq-eqb, ne_eqb, ltb-true}
 use Rattle.midi.specs.Lanes.{channel_of, key_of}
 use Rattle.midi.specs.Numbers.{quantity, quantity_from, quantity_at, quantity_bytes}
 use Rattle.midi.specs.Events.{
@@ -44,12 +44,12 @@ stands (y ∷ s) (suc at) {x} {xs} e = let r = stands s at e in record { inside 
 -- One group of a number.
 last_group : (g : ℕ) (s : List ℕ) (at sum : ℕ) {b : ℕ} {rest : List ℕ} → drop at s ≡ b ∷ rest → b < 128 → quantity_from (suc g) s at sum ≡ quantity (sum * 128 + b) (suc at)
 unfolding quantity_from
-last_group g s at sum {b} {rest} e h = let r = stands s at e in rw (lt_ltb at (length s) r.inside, quantity_from, r.here, lt_ltb b 128 h, r.here)
+last_group g s at sum {b} {rest} e h = let r = stands s at e in rw (lt-ltb at (length s) r.inside, quantity_from, r.here, lt-ltb b 128 h, r.here)
 
 more_group : (g : ℕ) (s : List ℕ) (at sum b : ℕ) {rest : List ℕ} → drop at s ≡ (128 + b) ∷ rest → quantity_from (suc g) s at sum ≡ quantity_from g s (suc at) (sum * 128 + b)
 unfolding quantity_from
 more_group g s at sum b {rest} e = let r = stands s at e in
-    rw (lt_ltb at (length s) r.inside, quantity_from, r.here, le_ltb (128 + b) 128 (omega arith)) (ap (λ n. quantity_from g s (suc at) (sum * 128 + n)) (omega arith))
+    rw (lt-ltb at (length s) r.inside, quantity_from, r.here, le-ltb (128 + b) 128 (omega arith)) (ap (λ n. quantity_from g s (suc at) (sum * 128 + n)) (omega arith))
 
 -- A number's bytes are read as the number.
 pub quantity_read : (n : ℕ) → n < 268435456 → (s : List ℕ) (at : ℕ) (rest : List ℕ) → drop at s ≡ quantity_bytes n ++ rest → quantity_at s at ≡ quantity n (at + length (quantity_bytes n))
@@ -121,14 +121,14 @@ channel_read b k v s tick q rest hb hk hv e =
     let r = stands s q e in
     let r1 = stands s (suc q) r.behind in
     rw (
-      lt_ltb q (length s) r.inside,
+      lt-ltb q (length s) r.inside,
       channel_at,
       r.here,
-      lt_ltb k 128 hk,
+      lt-ltb k 128 hk,
       ne_eqb (b / 32) 6 (omega arith),
-      lt_ltb (suc q) (length s) r1.inside,
+      lt-ltb (suc q) (length s) r1.inside,
       r1.here,
-      lt_ltb v 128 hv,
+      lt-ltb v 128 hv,
       r.here,
       r1.here,
     )
@@ -140,12 +140,12 @@ unfolding behind_time own_status
 status_read b k v s tick running q rest h0 h1 hk hv e =
     let r = stands s q e in
     rw (
-      lt_ltb q (length s) r.inside,
+      lt-ltb q (length s) r.inside,
       behind_time,
       r.here,
-      le_ltb b 128 h0,
+      le-ltb b 128 h0,
       r.here,
-      lt_ltb b 240 (omega arith),
+      lt-ltb b 240 (omega arith),
       own_status,
       r.here,
       channel_read b k v s tick (suc q) rest (omega arith) hk hv r.behind,
@@ -155,13 +155,13 @@ status_read b k v s tick running q rest h0 h1 hk hv e =
 end_message : (l v : ℕ) → l < 2048 → channel_message (128 + 0 * 16 + channel_of l) (key_of l) v ≡ ends l
 unfolding channel_message
 end_message l v h =
-    rw (ne_eqb ((128 + 0 * 16 + channel_of l) / 16) 9 (omega arith), channel_message, eq_eqb ((128 + 0 * 16 + channel_of l) / 16) 8 (omega arith))
+    rw (ne_eqb ((128 + 0 * 16 + channel_of l) / 16) 9 (omega arith), channel_message, eq-eqb ((128 + 0 * 16 + channel_of l) / 16) 8 (omega arith))
     (ap ends (omega arith))
 
 start_message : (l v : ℕ) → l < 2048 → 1 ≤ v → channel_message (128 + 1 * 16 + channel_of l) (key_of l) v ≡ starts l v
 unfolding channel_message
 start_message l v h hv =
-    rw (eq_eqb ((128 + 1 * 16 + channel_of l) / 16) 9 (omega arith), channel_message, ne_eqb v 0 (λ z. omega arith))
+    rw (eq-eqb ((128 + 1 * 16 + channel_of l) / 16) 9 (omega arith), channel_message, ne_eqb v 0 (λ z. omega arith))
     (ap (λ n. starts n v) (omega arith))
 
 message_read : (e : NoteEvent) → Writable e → channel_message (status_of e) (key_of e.lane) e.velocity ≡ message_of e
@@ -200,20 +200,20 @@ meta_read s tick q e =
     let r1 = stands s (suc q) r.behind in
     let n : length s ≡ suc (suc q) = omega (arith, r.inside, simp length-drop at (ap length e)) in
     rw (
-      lt_ltb q (length s) r.inside,
+      lt-ltb q (length s) r.inside,
       meta_at,
       r.here,
       last_group 3 s (suc q) 0 r.behind (omega arith),
-      le_leb (suc (suc q) + 0) (length s) (omega arith),
+      le-leb (suc (suc q) + 0) (length s) (omega arith),
       r.here,
-      eq_eqb (suc (suc q)) (length s) (sym n),
+      eq-eqb (suc (suc q)) (length s) (sym n),
     )
 
 end_read : (s : List ℕ) (tick running q : ℕ) → drop q s ≡ end_of_track → behind_time s tick running q ≡ finished tick
 unfolding behind_time own_status
 end_read s tick running q e =
     let r = stands s q e in
-    rw (lt_ltb q (length s) r.inside, behind_time, r.here, r.here) (meta_read s tick (suc q) r.behind)
+    rw (lt-ltb q (length s) r.inside, behind_time, r.here, r.here) (meta_read s tick (suc q) r.behind)
 
 pub finish_read : (d : ℕ) (s : List ℕ) (p : Place) → d < 268435456 → drop p.at s ≡ quantity_bytes d ++ end_of_track
     → event_at s p ≡ finished (p.tick + d)

@@ -10,7 +10,7 @@ use native.Mathlib.Nat.{lt-div-mul-add, div-lt_iff_lt-mul}
 use native.Mathlib.Omega.{arith}
 use lib.Dec.{leb, ltb, eqb}
 use lib.ListN.{length, take, drop}
-use borrow.Author.Tests.{eq_eqb, eqb-true, leb_true, ltb-true, ne_eqb}
+use borrow.Author.Tests.{eq-eqb, eqb-true, leb-true, ltb-true, ne_eqb}
 use Rattle.model.specs.Lists.{cons_if, count_from, gather}
 use Rattle.model.specs.Histories.{Recording}
 use Rattle.model.specs.Takes.{by_lane, lanes}
@@ -145,7 +145,7 @@ unfolding ended
 ended-own l start velocity tick = go (ltb 0 velocity && ltb start tick)
   where
     go : (b : Bool) → lane_notes l (cons_if b (note_at l start tick velocity) []) ≡ cons_if b (note_at l start tick velocity) []
-    go true = rw (eq_eqb l l refl)
+    go true = rw (eq-eqb l l refl)
     go false = refl
 
 pub ended_other : (j l start velocity tick : ℕ) → j ≢ l → lane_notes j (ended l start velocity tick) ≡ []
@@ -292,7 +292,7 @@ module _ (δ : ℕ) (z : 1 ≤ δ) where
       (play_holds q.tick m t notes l.1 (holds_later p.tick q.tick t notes l.0.not_back i)) (f q))
       (λ a. (omega arith, omega arith))
   after-sound s p (finished tick) t notes more f l i =
-      by_test Sound (leb tick (latest δ)) (λ a. recorded_valid tick t notes (leb_true tick (latest δ) a) (holds_later p.tick tick t notes l i)) (λ a. (omega arith, omega arith))
+      by_test Sound (leb tick (latest δ)) (λ a. recorded_valid tick t notes (leb-true tick (latest δ) a) (holds_later p.tick tick t notes l i)) (λ a. (omega arith, omega arith))
 
   run_sound : (fuel : ℕ) (s : List ℕ) (p : Place) (t : Sounding) (notes : List Note) → Holds p.tick t notes → Sound (run fuel δ s p t notes)
   unfolding run

@@ -4,7 +4,7 @@ use mathlib.Core.Path.{◌≡◌, refl, ap, ◌∙◌}
 use Prim.Native.Nat.{ℕ, zero, suc, ◌+◌, ◌-◌, ◌≤◌, ◌<◌}
 use native.Mathlib.Omega.{arith}
 use lib.ListN.{length, drop}
-use borrow.Author.Tests.{le_leb}
+use borrow.Author.Tests.{le-leb}
 use Rattle.model.specs.declared.Note.{Note}
 use Rattle.midi.specs.Numbers.{quantity_bytes}
 use Rattle.midi.specs.Events.{Place, place, event, finished, event_at}
@@ -42,7 +42,7 @@ module _ (δ end : ℕ) (low : end ≤ latest δ) (small : end < 268435456) (s :
   run-play [] zero p t notes h f e = absurd (omega arith)
   run-play [] (suc fuel) p t notes h f e =
       let r : event_at s p ≡ finished end = finish_read (end - p.tick) s p (omega arith) e ∙ ap finished (omega arith) in
-      rw (r, run, le_leb end (latest δ) low, after)
+      rw (r, run, le-leb end (latest δ) low, after)
   run-play (x ∷ es) zero p t notes h f e = absurd (omega arith)
   run-play (x ∷ es) (suc fuel) p t notes h f e =
       let d = x.tick - p.tick in
@@ -59,5 +59,5 @@ module _ (δ end : ℕ) (low : end ≤ latest δ) (small : end < 268435456) (s :
       go : (q : ℕ) → event_at s p ≡ event (place q x.tick (status_of x)) (message_of x) → (r : Played) → play x.tick (message_of x) t notes ≡ r
           → ((t : Sounding) (notes : List Note) → run fuel δ s (place q x.tick (status_of x)) t notes ≡ answer_at δ end (play_all es t notes))
           → run (suc fuel) δ s p t notes ≡ answer_at δ end (play_all (x ∷ es) t notes)
-      go q r clash c ih = rw (r, run, le_leb x.tick (latest δ) (omega (arith, h.2)), after, c)
-      go q r (played u out) c ih = rw (r, run, le_leb x.tick (latest δ) (omega (arith, h.2)), after, c) (ih u out)
+      go q r clash c ih = rw (r, run, le-leb x.tick (latest δ) (omega (arith, h.2)), after, c)
+      go q r (played u out) c ih = rw (r, run, le-leb x.tick (latest δ) (omega (arith, h.2)), after, c) (ih u out)

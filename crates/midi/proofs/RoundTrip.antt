@@ -8,7 +8,7 @@ use native.Mathlib.Omega.{arith}
 use lib.Dec.{eqb}
 use lib.ListN.{length, length-append}
 use lib.Seq.{take-length}
-use borrow.Author.Tests.{le_leb, eq_eqb, eqb-true}
+use borrow.Author.Tests.{le-leb, eq-eqb, eqb-true}
 use Rattle.model.specs.Lists.{gather}
 use Rattle.model.specs.Soundness.{notes_ok}
 use Rattle.model.specs.Takes.{by_lane}
@@ -106,10 +106,10 @@ module _ (δ beats : ℕ) (notes : List Note) (positive : 1 ≤ δ) (small : δ 
 
 track-here : (s : List ℕ) (at n : ℕ) → at + 8 + n ≤ length s → word32 s (at + 4) ≡ n → word32 s at ≡ MTrk → track_after s at ≡ track (at + 8) n
 unfolding chunk_there
-track-here s at n h e f = chunk_step s at (omega arith) ∙ rw (there, eq_eqb (word32 s at) MTrk f, e)
+track-here s at n h e f = chunk_step s at (omega arith) ∙ rw (there, eq-eqb (word32 s at) MTrk f, e)
   where
     there : chunk_there s at ≡ true
-    there = rw (le_leb (at + 8) (length s) (omega arith), chunk_there, e, le_leb (at + 8 + n) (length s) h)
+    there = rw (le-leb (at + 8) (length s) (omega arith), chunk_there, e, le-leb (at + 8 + n) (length s) h)
 
 module _ (δ : ℕ) (t : List ℕ) where
   abbrev file : List ℕ
@@ -117,11 +117,11 @@ module _ (δ : ℕ) (t : List ℕ) where
 
   there : header_there file ≡ true
   unfolding header_there header_bytes
-  there = rw (le_leb 8 (length file) (omega arith), header_there, le_leb 14 (length file) (omega arith))
+  there = rw (le-leb 8 (length file) (omega arith), header_there, le-leb 14 (length file) (omega arith))
 
   fits : header_fits δ file ≡ true
   unfolding header_fits header_bytes
-  fits = rw (eq_eqb (δ / 256 * 256 + δ % 256) δ (omega arith))
+  fits = rw (eq-eqb (δ / 256 * 256 + δ % 256) δ (omega arith))
 
   at-track : track_after file 14 ≡ track 22 (length t)
   unfolding header_bytes

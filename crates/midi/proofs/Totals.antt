@@ -7,7 +7,7 @@ use native.Mathlib.Decide.{ℕ_discrete}
 use native.Mathlib.Omega.{arith}
 use lib.Dec.{eqb}
 use lib.ListN.{length, length-append}
-use borrow.Author.Tests.{eq_eqb, ne_eqb}
+use borrow.Author.Tests.{eq-eqb, ne_eqb}
 use Rattle.model.specs.Lists.{count_from, gather}
 use Rattle.model.specs.Takes.{by_lane, lanes}
 use Rattle.model.specs.declared.Note.{Note}
@@ -83,7 +83,7 @@ lanes-total f [] a = none 2048 0
     none (suc n) i = omega (arith, none n (suc i))
 lanes-total f (x ∷ ns) a =
     total_more (λ l. total f (lane_notes l (x ∷ ns))) (λ l. total f (lane_notes l ns)) (f x) x.lane 2048 0 (omega arith) a.0
-    (rw (eq_eqb x.lane x.lane refl)) (λ j d. rw (ne_eqb x.lane j (λ e. d (sym e))))
+    (rw (eq-eqb x.lane x.lane refl)) (λ j d. rw (ne_eqb x.lane j (λ e. d (sym e))))
     ∙ ap (λ n. f x + n) (lanes-total f ns a.1)
 
 -- A sum is the same in order of lanes.

@@ -5,7 +5,7 @@ use mathlib.Core.List.{List, []}
 use Prim.Native.Nat.{ℕ, ◌*◌, ◌≤◌}
 use native.Mathlib.Nat.{mul-le-mul}
 use native.Mathlib.Omega.{arith}
-use borrow.Author.Tests.{leb_true, eqb-true}
+use borrow.Author.Tests.{leb-true, eqb-true}
 use lib.Dec.{leb, eqb}
 use Rattle.model.specs.Limits.{max_shelves, max_delta, min_words, max_words}
 use Rattle.model.specs.Session.{header_of, words_of_header, session_length}
@@ -56,8 +56,8 @@ product_small shelves words e =
     let p₃ = p₂ && leb min_words words in
     let e₄ = and_both p₃ (leb words max_words) e in
     let e₂ = and_both p₂ (leb min_words words) e₄.0 in
-    let few = leb_true shelves 64 (and_both (leb 1 shelves) (leb shelves max_shelves) e₂.0).1 in
-    mul-le-mul few (leb_true words 1048576 e₄.1)
+    let few = leb-true shelves 64 (and_both (leb 1 shelves) (leb shelves max_shelves) e₂.0).1 in
+    mul-le-mul few (leb-true words 1048576 e₄.1)
 
 -- ---- what an answer tells
 
@@ -91,14 +91,14 @@ in_range {h} {len} e =
     let e₃ = and_both p₂ (leb 1 h.epsilon) e₄.0 in
     let e₂ = and_both (leb 1 h.delta) (leb h.delta max_delta) e₃.0 in
     record {
-      some-ticks = leb_true _ _ e₂.0;
-      few_ticks = leb_true _ _ e₂.1;
-      some-kept = leb_true _ _ e₃.1;
-      kept-within = leb_true _ _ e₄.1;
-      some_shelves = leb_true _ _ e₅.1;
-      few_shelves = leb_true _ _ e₆.1;
-      large = leb_true _ _ e₇.1;
-      small = leb_true _ _ e₈.1;
+      some-ticks = leb-true _ _ e₂.0;
+      few_ticks = leb-true _ _ e₂.1;
+      some-kept = leb-true _ _ e₃.1;
+      kept-within = leb-true _ _ e₄.1;
+      some_shelves = leb-true _ _ e₅.1;
+      few_shelves = leb-true _ _ e₆.1;
+      large = leb-true _ _ e₇.1;
+      small = leb-true _ _ e₈.1;
       exact = eqb-true _ _ e₉.1;
     }
 

@@ -4,7 +4,7 @@ use mathlib.Core.List.{List, [], ◌∷◌, ◌++◌}
 use Prim.Native.Nat.{ℕ, zero, suc, ◌+◌, ◌-◌, ◌*◌, ◌≤◌, ◌<◌}
 use native.Mathlib.Omega.{arith}
 use lib.ListN.{length, get_or}
-use borrow.Author.Tests.{lt_ltb}
+use borrow.Author.Tests.{lt-ltb}
 use Rattle.radix.specs.Ranks.{All}
 use Rattle.midi.specs.Numbers.{quantity_bytes}
 use Rattle.midi.specs.Writing.{message_bytes}
@@ -55,7 +55,7 @@ none_last t (k ∷ ks) h = absurd (omega arith)
 
 quantity_short : (n : ℕ) → n < 128 → quantity_bytes n ≡ n ∷ []
 unfolding quantity_bytes
-quantity_short n h = rw (lt_ltb n 128 h, quantity_bytes)
+quantity_short n h = rw (lt-ltb n 128 h, quantity_bytes)
 
 short-rest : (t k : ℕ) (ks : List ℕ) → Short t (k ∷ ks) → Short (tick_of k) ks
 unfolding time_at

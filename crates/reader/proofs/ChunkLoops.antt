@@ -6,7 +6,7 @@ use Prim.Native.Nat.{ℕ, ◌+◌, ◌-◌, ◌≤◌, ◌<◌}
 use native.Mathlib.Omega.{arith}
 use lib.Dec.{leb, eqb}
 use lib.ListN.{length, take, drop}
-use borrow.Author.Tests.{eq_eqb, le_leb, leb_true, lt-leb, ne_eqb}
+use borrow.Author.Tests.{eq-eqb, le-leb, leb-true, lt-leb, ne_eqb}
 use Rattle.laws.specs.Booleans.{and_left, and_right}
 use Rattle.midi.specs.Numbers.{word16, word32}
 use Rattle.midi.specs.Reading.{
@@ -37,16 +37,16 @@ module _ (s : List ℕ) where
   module _ (h : 8 ≤ length s) (name : ℕ) (e : name ≡ word32 s 0) where
     pub there_other : (name ≡ MThd → ⊥) → false ≡ header_there s
     unfolding header_there
-    there_other d = rw (le_leb 8 (length s) h, header_there, ne_eqb (word32 s 0) MThd (λ f. d (e ∙ f)))
+    there_other d = rw (le-leb 8 (length s) h, header_there, ne_eqb (word32 s 0) MThd (λ f. d (e ∙ f)))
 
     module _ (k : name ≡ MThd) (size : ℕ) (f : size ≡ word32 s 4) where
       pub there_small : size < 6 → false ≡ header_there s
       unfolding header_there
-      there_small i = rw (le_leb 8 (length s) h, header_there, eq_eqb (word32 s 0) MThd (sym e ∙ k), lt-leb 6 (word32 s 4) (omega arith))
+      there_small i = rw (le-leb 8 (length s) h, header_there, eq-eqb (word32 s 0) MThd (sym e ∙ k), lt-leb 6 (word32 s 4) (omega arith))
 
       pub there_last : 6 ≤ size → leb (8 + size) (length s) ≡ header_there s
       unfolding header_there
-      there_last i = rw (f, le_leb 8 (length s) h, header_there, eq_eqb (word32 s 0) MThd (sym e ∙ k), le_leb 6 (word32 s 4) (omega arith))
+      there_last i = rw (f, le-leb 8 (length s) h, header_there, eq-eqb (word32 s 0) MThd (sym e ∙ k), le-leb 6 (word32 s 4) (omega arith))
 
   -- a header that is there: its length is 6 or more, and all is inside the file
   pub there_long : header_there s ≡ true → (6 ≤ word32 s 4) × (8 + word32 s 4 ≤ length s)
@@ -55,7 +55,7 @@ module _ (s : List ℕ) where
       let name = leb 8 (length s) && eqb (word32 s 0) MThd in
       let six = leb 6 (word32 s 4) in
       let last = leb (8 + word32 s 4) (length s) in
-      (leb_true 6 (word32 s 4) (and_right name six (and_left (name && six) last e)), leb_true (8 + word32 s 4) (length s) (and_right (name && six) last e))
+      (leb-true 6 (word32 s 4) (and_right name six (and_left (name && six) last e)), leb-true (8 + word32 s 4) (length s) (and_right (name && six) last e))
 
 module _ (δ : ℕ) (s : List ℕ) (format : ℕ) (e : format ≡ word16 s 8) where
   pub fits_format : (format ≡ 0 → ⊥) → false ≡ header_fits δ s
@@ -65,11 +65,11 @@ module _ (δ : ℕ) (s : List ℕ) (format : ℕ) (e : format ≡ word16 s 8) wh
   module _ (z : format ≡ 0) (tracks : ℕ) (f : tracks ≡ word16 s 10) where
     pub fits_tracks : (tracks ≡ 1 → ⊥) → false ≡ header_fits δ s
     unfolding header_fits
-    fits_tracks d = rw (eq_eqb (word16 s 8) 0 (sym e ∙ z), header_fits, ne_eqb (word16 s 10) 1 (λ g. d (f ∙ g)))
+    fits_tracks d = rw (eq-eqb (word16 s 8) 0 (sym e ∙ z), header_fits, ne_eqb (word16 s 10) 1 (λ g. d (f ∙ g)))
 
     pub fits_last : tracks ≡ 1 → (division : ℕ) → division ≡ word16 s 12 → eqb division δ ≡ header_fits δ s
     unfolding header_fits
-    fits_last o d g = rw (g, eq_eqb (word16 s 8) 0 (sym e ∙ z), header_fits, eq_eqb (word16 s 10) 1 (sym f ∙ o))
+    fits_last o d g = rw (g, eq-eqb (word16 s 8) 0 (sym e ∙ z), header_fits, eq-eqb (word16 s 10) 1 (sym f ∙ o))
 
 -- ---- one chunk
 
@@ -81,15 +81,15 @@ module _ (s : List ℕ) (at : ℕ) (i : at ≤ length s) where
   module _ (h : 8 ≤ length s - at) (size : ℕ) (f : size ≡ word32 s (at + 4)) where
     pub chunk_cut : length s - (at + 8) < size → track_after s at ≡ no_track
     unfolding chunk_there
-    chunk_cut k = chunk_step s at i ∙ rw (le_leb (at + 8) (length s) (omega arith), chunk_there, lt-leb (at + 8 + word32 s (at + 4)) (length s) (omega arith))
+    chunk_cut k = chunk_step s at i ∙ rw (le-leb (at + 8) (length s) (omega arith), chunk_there, lt-leb (at + 8 + word32 s (at + 4)) (length s) (omega arith))
 
     module _ (k : size ≤ length s - (at + 8)) (name : ℕ) (e : name ≡ word32 s at) where
       whole : chunk_there s at ≡ true
       unfolding chunk_there
-      whole = rw (le_leb (at + 8) (length s) (omega arith), chunk_there) (le_leb (at + 8 + word32 s (at + 4)) (length s) (omega arith))
+      whole = rw (le-leb (at + 8) (length s) (omega arith), chunk_there) (le-leb (at + 8 + word32 s (at + 4)) (length s) (omega arith))
 
       pub chunk_track : name ≡ MTrk → track_after s at ≡ track (at + 8) size
-      chunk_track g = chunk_step s at i ∙ rw (whole, eq_eqb (word32 s at) MTrk (sym e ∙ g), f)
+      chunk_track g = chunk_step s at i ∙ rw (whole, eq-eqb (word32 s at) MTrk (sym e ∙ g), f)
 
       pub chunk_other : (name ≡ MTrk → ⊥) → track_after s at ≡ track_after s (at + 8 + size)
       chunk_other d = chunk_step s at i ∙ rw (whole, ne_eqb (word32 s at) MTrk (λ g. d (e ∙ g)), f)

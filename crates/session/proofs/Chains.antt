@@ -1,11 +1,11 @@
 -- The first cells of those up to a place: are they linked, shown, clear of a note, and in order? One law for each way out of the code.
 -- Assumes nothing.
 use mathlib.Core.Path.{◌≡◌, refl, sym, ap, ◌∙◌}
-use mathlib.Core.Bool.{Bool, true, false, not, ◌&&◌, and-false, or_false}
+use mathlib.Core.Bool.{Bool, true, false, not, ◌&&◌, and-false, or-false}
 use mathlib.Core.List.{List, [], ◌∷◌}
 use Prim.Native.Nat.{ℕ, zero, suc, ◌+◌, ◌*◌, ◌-◌, ◌≤◌, ◌<◌}
 use native.Mathlib.Omega.{arith}
-use borrow.Author.Tests.{not-true, not-false, eq_eqb, ne_eqb}
+use borrow.Author.Tests.{not-true, not-false, eq-eqb, ne_eqb}
 use lib.Dec.{leb}
 use Rattle.model.specs.Binding.{stands_alone, bound_next, meet, bound, fills}
 use Rattle.model.specs.Lists.{every}
@@ -26,7 +26,7 @@ use Rattle.session.proofs.Lasts.{no_cells, cons}
 module _ (h : Header) (c : Cell) where
   opens-linked : c.side ≡ 0 → (cs : List Cell) → linked h c cs ≡ leb h.delta c.after
   unfolding linked fills
-  opens-linked e cs = rw (open_free h c cs e, eq_eqb c.side 0 e) (or_false (leb h.delta c.after))
+  opens-linked e cs = rw (open_free h c cs e, eq-eqb c.side 0 e) (or-false (leb h.delta c.after))
 
   closes_linked : (c.side ≡ 0 → ⊥) → (cs : List Cell) → linked h c cs ≡ bound_next h c cs
   unfolding linked fills

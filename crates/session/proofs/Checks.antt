@@ -6,7 +6,7 @@ use mathlib.Core.List.{List, [], ◌∷◌}
 use Prim.Native.Nat.{ℕ, zero, suc, ◌+◌, ◌*◌, ◌-◌, ◌/◌, ◌%◌, ◌≤◌, ◌<◌}
 use native.Mathlib.Nat.{mul-le-mul, mul-le-mul_left, mul-le-mul_right, add-mul, suc-mul, div-add-mod', eq-or-lt_of_le, sub-zero}
 use native.Mathlib.Omega.{arith}
-use borrow.Author.Tests.{le_leb, lt_ltb, eq_eqb, ne_eqb}
+use borrow.Author.Tests.{le-leb, lt-ltb, eq-eqb, ne_eqb}
 use lib.Dec.{leb, ltb, eqb}
 use lib.ListN.{length, drop, length-append}
 use Rattle.model.specs.Lists.{gather}
@@ -60,8 +60,8 @@ first_follows_lem [] = refl
 first_follows_lem (n ∷ ns) = go n.lane
   where
     go : (l : ℕ) → (ltb 0 l || eqb 0 l && leb 0 n.start) ≡ true
-    go zero = le_leb 0 n.start (omega arith)
-    go (suc l) = rw (lt_ltb 0 (suc l) (omega arith))
+    go zero = le-leb 0 n.start (omega arith)
+    go (suc l) = rw (lt-ltb 0 (suc l) (omega arith))
 
 module _ (δ beats : ℕ) (ws : List ℕ) where
   -- the notes from place at on, all of them, and how many cells some notes have
@@ -164,4 +164,4 @@ module _ (h : Header) (beats : ℕ) (ws : List ℕ) where
   pub counted : length ws % 4 ≡ 0 → notes_ok h.delta beats (read_notes (length ws / 4) ws) ≡ true
       → (k : ℕ) → k ≡ length (gather (cells_of_note h.delta) (read_notes (length ws / 4) ws)) → list_of (Cells k) ≡ list_asked h beats ws
   unfolding list_asked list_ok listed cells_listed
-  counted whole right k e = rw (eq_eqb (length ws % 4) 0 whole, right, e)
+  counted whole right k e = rw (eq-eqb (length ws % 4) 0 whole, right, e)

@@ -5,7 +5,7 @@ use mathlib.Core.List.{List, []}
 use Prim.Native.Nat.{ℕ, zero, suc, ◌+◌, ◌*◌, ◌-◌, ◌/◌, ◌≤◌, ◌<◌}
 use native.Mathlib.Nat.{mul-le-mul_right, le-div_iff_mul-le, div-mul-le_self, lt-div-mul-add, div-lt_iff_lt-mul, suc-mul, lt_of_mul-lt-mul_right}
 use native.Mathlib.Omega.{arith}
-use borrow.Author.Tests.{le_leb, leb_true, leb-false, lt_ltb, le_ltb, ltb-true, ltb-false}
+use borrow.Author.Tests.{le-leb, leb-true, leb-false, lt-ltb, le-ltb, ltb-true, ltb-false}
 use lib.Dec.{leb, ltb}
 use lib.ListN.{length, length-append}
 use Rattle.model.specs.Lists.{cons_if, gather, count_from}
@@ -64,12 +64,12 @@ module _ {δ : ℕ} {n : Note} (i : Beats δ n) where
   opens : (b : ℕ) → first_beat δ n ≤ b → one_if (leb n.start (suc b * δ)) ≡ 1
   opens b h =
       let e : n.start ≤ suc b * δ = omega (arith, i.high, suc-mul b δ, mul-le-mul_right δ h) in
-      rw (le_leb _ _ e)
+      rw (le-leb _ _ e)
 
   closes : (b : ℕ) → b < last_beat δ n → one_if (leb (suc b * δ) n.end) ≡ 1
   closes b h =
       let e : suc b * δ ≤ n.end = omega (arith, i.last_low, mul-le-mul_right δ h) in
-      rw (le_leb _ _ e)
+      rw (le-leb _ _ e)
 
   -- the cells of k + 1 beats from b on, up to the last
   count_from_lem : (k b : ℕ) → first_beat δ n ≤ b → b + k ≡ last_beat δ n
@@ -111,8 +111,8 @@ one_of : (a b : ℕ) → one_if (ltb a b) + one_if (leb b a) ≡ 1
 one_of a b = go (leb b a) refl
   where
     go : (x : Bool) → leb b a ≡ x → one_if (ltb a b) + one_if x ≡ 1
-    go true e = rw (le_ltb a b (leb_true b a e))
-    go false e = rw (lt_ltb a b (leb-false b a e))
+    go true e = rw (le-ltb a b (leb-true b a e))
+    go false e = rw (lt-ltb a b (leb-false b a e))
 
 -- the sides before a tick that lies at line k or behind it, behind it, at it or ahead of it
 module _ (δ : ℕ) (pos : 0 < δ) (t : ℕ) where
@@ -152,7 +152,7 @@ sides_between δ n h =
         omega (
           arith,
           sides_upto δ h.0 n.end (last_beat δ n + 1) (omega (arith, i.last_high, i.last_next)),
-          sides_from δ h.0 n.end (last_beat δ n + 1) (leb_true ((last_beat δ n + 1) * δ) n.end e),
+          sides_from δ h.0 n.end (last_beat δ n + 1) (leb-true ((last_beat δ n + 1) * δ) n.end e),
         )
     upto false e i =
         let last : n.end / δ < last_beat δ n + 1 = (div-lt_iff_lt-mul h.0).1 (leb-false ((last_beat δ n + 1) * δ) n.end e) in

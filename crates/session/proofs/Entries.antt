@@ -4,7 +4,7 @@ use mathlib.Core.Bool.{Bool, true, false, cond, and-false}
 use mathlib.Core.List.{List, []}
 use Prim.Native.Nat.{ℕ, ◌≤◌, ◌<◌}
 use native.Mathlib.Omega.{arith}
-use borrow.Author.Tests.{ltb-true, lt_ltb, le_ltb, ne_eqb}
+use borrow.Author.Tests.{ltb-true, lt-ltb, le-ltb, ne_eqb}
 use lib.Dec.{ltb, eqb}
 use lib.ListN.{length}
 use Rattle.model.specs.Session.{header_of, session_length, words_of_header}
@@ -38,13 +38,13 @@ module _ (s : List ℕ) (shelf : ℕ) where
     pub granted : shelf < h.shelves → entry_of (Granted h) ≡ entry_asked s shelf
     unfolding entry_asked
     granted below =
-        let t : ltb shelf (header_of s).shelves ≡ true = lt_ltb shelf (header_of s).shelves (omega (arith, shelves_are)) in
+        let t : ltb shelf (header_of s).shelves ≡ true = lt-ltb shelf (header_of s).shelves (omega (arith, shelves_are)) in
         ap (λ (g : Header). entry_of (Granted g)) is ∙ rw ((valid_means (header_of s) (length s) h e).0, t)
 
     pub no_shelf : h.shelves ≤ shelf → entry_of (Refused 2) ≡ entry_asked s shelf
     unfolding entry_asked
     no_shelf above =
-        let t : ltb shelf (header_of s).shelves ≡ false = le_ltb shelf (header_of s).shelves (omega (arith, shelves_are)) in
+        let t : ltb shelf (header_of s).shelves ≡ false = le-ltb shelf (header_of s).shelves (omega (arith, shelves_are)) in
         rw ((valid_means (header_of s) (length s) h e).0, t)
 
 -- ---- what an entry tells

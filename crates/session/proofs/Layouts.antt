@@ -1,11 +1,11 @@
 -- The layout of a shelf, one law for each way out of the code. Assumes nothing.
 use mathlib.Core.Path.{◌≡◌, refl, sym, ap, ◌∙◌}
-use mathlib.Core.Bool.{Bool, true, false, ◌&&◌, and_true}
+use mathlib.Core.Bool.{Bool, true, false, ◌&&◌, and-true}
 use mathlib.Core.List.{List, [], ◌∷◌, ◌++◌}
 use Prim.Native.Nat.{ℕ, suc, ◌+◌, ◌-◌, ◌≤◌, ◌<◌}
 use native.Mathlib.Omega.{arith}
 use native.Mathlib.Numerals.{add-one}
-use borrow.Author.Tests.{le_leb, lt-leb, eq_eqb, ne_eqb, eqb-true, eqb-false}
+use borrow.Author.Tests.{le-leb, lt-leb, eq-eqb, ne_eqb, eqb-true, eqb-false}
 use lib.Dec.{eqb}
 use lib.Bits.{bit_or, or_add_and, and_le_l, and_le_r}
 use lib.ListN.{length, get_or, take, drop, length-drop, take-append-drop}
@@ -23,7 +23,7 @@ pub or_zero : (a b : ℕ) → eqb (bit_or a b) 0 ≡ eqb 0 b && eqb a 0
 or_zero a b = go (eqb 0 b) (eqb a 0) refl refl
   where
     go : (t u : Bool) → eqb 0 b ≡ t → eqb a 0 ≡ u → eqb (bit_or a b) 0 ≡ t && u
-    go true true p q = let x : 0 ≡ b = eqb-true 0 b p in let y : a ≡ 0 = eqb-true a 0 q in rw (← x, y) (eq_eqb 0 0 refl)
+    go true true p q = let x : 0 ≡ b = eqb-true 0 b p in let y : a ≡ 0 = eqb-true a 0 q in rw (← x, y) (eq-eqb 0 0 refl)
     go true false p q = ne_eqb (bit_or a b) 0 (λ e. eqb-false a 0 q (omega (arith, or_add_and a b, and_le_r a b)))
     go false u p q = ne_eqb (bit_or a b) 0 (λ e. eqb-false 0 b p (omega (arith, or_add_and a b, and_le_l a b)))
 
@@ -51,7 +51,7 @@ module _ (ws : List ℕ) (from to : ℕ) where
       swap false false c = refl
 
   pub joining_done : (all at : ℕ) → Joining all at → to ≤ at → eqb all 0 ≡ every (eqb 0) (take (to - from) (drop from ws))
-  joining_done all at j h = let e : to - at ≡ 0 = omega arith in sym (and_true (eqb all 0)) ∙ rw e at j.same
+  joining_done all at j h = let e : to - at ≡ 0 = omega arith in sym (and-true (eqb all 0)) ∙ rw e at j.same
 
 every_append : (xs ys : List ℕ) → every (eqb 0) (xs ++ ys) ≡ every (eqb 0) xs && every (eqb 0) ys
 every_append [] ys = refl
@@ -70,7 +70,7 @@ module _ (ws : List ℕ) (at : ℕ) where
   block_is = omega arith
 
   pub block_past : {r : ℕ} → eqb r 0 ≡ every (eqb 0) (take (at + 64 - at) (drop at ws)) → r ≡ 0 → every (eqb 0) (drop (at + 64) ws) ≡ every (eqb 0) (drop at ws)
-  block_past {r} e z = let f : every (eqb 0) (take 64 (drop at ws)) ≡ true = rw block_is at (sym e ∙ eq_eqb r 0 z) in sym (blocks ∙ rw f)
+  block_past {r} e z = let f : every (eqb 0) (take 64 (drop at ws)) ≡ true = rw block_is at (sym e ∙ eq-eqb r 0 z) in sym (blocks ∙ rw f)
 
   pub block_not : {r : ℕ} → eqb r 0 ≡ every (eqb 0) (take (at + 64 - at) (drop at ws)) → (r ≡ 0 → ⊥) → every (eqb 0) (drop at ws) ≡ false
   block_not {r} e z = let f : every (eqb 0) (take 64 (drop at ws)) ≡ false = rw block_is at (sym e ∙ ne_eqb r 0 z) in blocks ∙ rw f
@@ -86,8 +86,8 @@ module _ (W : ℕ) (ws : List ℕ) where
   module _ (few : word ws 0 ≤ max_beats) {u : ℕ} (is : u ≡ words_used (word ws 1) (word ws 2)) where
     pub too_long : W < u → false ≡ layout_ok W ws
     unfolding layout_ok
-    too_long h = rw (le_leb (word ws 0) max_beats few, ← is, lt-leb u W h)
+    too_long h = rw (le-leb (word ws 0) max_beats few, ← is, lt-leb u W h)
 
     pub by_zeros : u ≤ W → {p : Bool} → p ≡ every (eqb 0) (drop u ws) → p ≡ layout_ok W ws
     unfolding layout_ok
-    by_zeros h e = rw (le_leb (word ws 0) max_beats few, ← is, le_leb u W h) e
+    by_zeros h e = rw (le-leb (word ws 0) max_beats few, ← is, le-leb u W h) e

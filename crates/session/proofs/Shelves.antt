@@ -4,7 +4,7 @@ use mathlib.Core.Bool.{Bool, true, false, not, ◌&&◌}
 use mathlib.Core.List.{List}
 use Prim.Native.Nat.{ℕ, ◌+◌, ◌*◌, ◌-◌, ◌≤◌, ◌<◌}
 use native.Mathlib.Omega.{arith}
-use borrow.Author.Tests.{not-true, not-false, leb_true}
+use borrow.Author.Tests.{not-true, not-false, leb-true}
 use lib.Dec.{eqb, leb}
 use lib.ListN.{length, drop}
 use Rattle.model.specs.Limits.{max_beats}
@@ -34,8 +34,8 @@ laid ws {p} e t =
     let all : layout_ok (length ws) ws ≡ true = sym e ∙ not-false p t in
     let two = and_left (leb (word ws 0) max_beats && leb used (length ws)) (every (eqb 0) (drop used ws)) all in
     record {
-      few = leb_true _ _ (and_left (leb (word ws 0) max_beats) (leb used (length ws)) two);
-      fits = leb_true _ _ (and_right (leb (word ws 0) max_beats) (leb used (length ws)) two);
+      few = leb-true _ _ (and_left (leb (word ws 0) max_beats) (leb used (length ws)) two);
+      fits = leb-true _ _ (and_right (leb (word ws 0) max_beats) (leb used (length ws)) two);
     }
 
 -- all notes, and all cells

@@ -5,7 +5,7 @@ use mathlib.Core.List.{List, [], ◌∷◌}
 use Prim.Native.Nat.{ℕ, zero, suc, ◌+◌, ◌*◌, ◌-◌, ◌≤◌, ◌<◌}
 use native.Mathlib.Nat.{mul-le-mul_right}
 use native.Mathlib.Omega.{arith}
-use borrow.Author.Tests.{not-true, not-false, eq_eqb, eqb-true, ne_eqb}
+use borrow.Author.Tests.{not-true, not-false, eq-eqb, eqb-true, ne_eqb}
 use lib.Dec.{eqb}
 use Rattle.model.specs.Binding.{end_of}
 use Rattle.model.specs.Limits.{max_beats}
@@ -49,7 +49,7 @@ module _ (h : Header) (ws : List ℕ) (end : ℕ) where
     by_last le fits = go last refl
       where
         go : (k : ℕ) → k ≡ last → eqb last 0 ≡ given_by h [] (last_cells ws end line)
-        go zero e = let z : last ≡ 0 = omega arith in rw (eq_eqb last 0 z) (sym (nothing_given z))
+        go zero e = let z : last ≡ 0 = omega arith in rw (eq-eqb last 0 z) (sym (nothing_given z))
         go (suc k) e = rw (ne_eqb last 0 (λ z. omega arith)) (sym (note-given (omega arith) le fits))
 
     pub passes_none : {n : Note} (beside : ℕ) → inside h.delta n ≡ false → last ≡ 0 → Passes h ws end n beside line (record { right = false; beside = beside; line = line })

@@ -7,15 +7,15 @@ use native.Mathlib.Numerals.{add-one}
 use native.Mathlib.Omega.{arith}
 use lib.Dec.{leb, ltb, eqb}
 use borrow.Author.Tests.{
-  eq_eqb,
+  eq-eqb,
   ne_eqb,
-  lt_ltb,
-  le_ltb,
+  lt-ltb,
+  le-ltb,
   lt-leb,
-  le_leb,
+  le-leb,
   ltb-true,
   ltb-false,
-  leb_true,
+  leb-true,
   leb-false,
   eqb-true,
   eqb-false,
@@ -42,17 +42,17 @@ module _ (l b m e : ℕ) (b-word : b ≤ 4294967295) (e-word : e ≤ 4294967295)
   one_number = go (ltb l m) refl (eqb l m) refl (ltb b e) refl
     where
       go : (p : Bool) → ltb l m ≡ p → (q : Bool) → eqb l m ≡ q → (r : Bool) → ltb b e ≡ r → ltb x y ≡ (p || q && r)
-      go true f q g r h = let k : l < m = ltb-true l m f in lt_ltb x y (omega arith)
-      go false f true g true h = let k : l ≡ m = eqb-true l m g in let j : b < e = ltb-true b e h in lt_ltb x y (omega arith)
-      go false f true g false h = let k : l ≡ m = eqb-true l m g in let j : e ≤ b = ltb-false b e h in le_ltb x y (omega arith)
-      go false f false g r h = let k : m ≤ l = ltb-false l m f in let j : l ≡ m → ⊥ = eqb-false l m g in le_ltb x y (omega arith)
+      go true f q g r h = let k : l < m = ltb-true l m f in lt-ltb x y (omega arith)
+      go false f true g true h = let k : l ≡ m = eqb-true l m g in let j : b < e = ltb-true b e h in lt-ltb x y (omega arith)
+      go false f true g false h = let k : l ≡ m = eqb-true l m g in let j : e ≤ b = ltb-false b e h in le-ltb x y (omega arith)
+      go false f false g r h = let k : m ≤ l = ltb-false l m f in let j : l ≡ m → ⊥ = eqb-false l m g in le-ltb x y (omega arith)
 
   pub one-number-within : leb x y ≡ (ltb l m || eqb l m && leb b e)
   one-number-within = go (ltb l m) refl (eqb l m) refl (leb b e) refl
     where
       go : (p : Bool) → ltb l m ≡ p → (q : Bool) → eqb l m ≡ q → (r : Bool) → leb b e ≡ r → leb x y ≡ (p || q && r)
-      go true f q g r h = let k : l < m = ltb-true l m f in le_leb x y (omega arith)
-      go false f true g true h = let k : l ≡ m = eqb-true l m g in let j : b ≤ e = leb_true b e h in le_leb x y (omega arith)
+      go true f q g r h = let k : l < m = ltb-true l m f in le-leb x y (omega arith)
+      go false f true g true h = let k : l ≡ m = eqb-true l m g in let j : b ≤ e = leb-true b e h in le-leb x y (omega arith)
       go false f true g false h = let k : l ≡ m = eqb-true l m g in let j : e < b = leb-false b e h in lt-leb x y (omega arith)
       go false f false g r h = let k : m ≤ l = ltb-false l m f in let j : l ≡ m → ⊥ = eqb-false l m g in lt-leb x y (omega arith)
 
@@ -87,7 +87,7 @@ module _ (δ beats : ℕ) (c : Cell) {p : Bool} (e : p ≡ cell_in_range beats c
 module _ (c d : Cell) where
   pub by_beat : c.lane ≡ d.lane → c.side ≡ 1 → d.side ≡ 0 → eqb d.beat (c.beat + 1) ≡ meet c d
   unfolding meet
-  by_beat e f g = rw (eq_eqb _ _ e, eq_eqb _ _ f, eq_eqb _ _ g, add-one)
+  by_beat e f g = rw (eq-eqb _ _ e, eq-eqb _ _ f, eq-eqb _ _ g, add-one)
 
   module _ (h : Header) {p q : Bool} (e : p ≡ stands_alone h c) (f : q ≡ stands_alone h d) where
     pub both_end : p ≡ true → q ≡ true → c.after ≡ 0 → false ≡ bound h c d
@@ -96,7 +96,7 @@ module _ (c d : Cell) where
 
     pub both_go : p ≡ true → q ≡ true → (c.after ≡ 0 → ⊥) → ltb 0 d.before ≡ bound h c d
     unfolding bound
-    both_go s t a = let l : 0 < c.after = omega arith in rw (← e, ← f, s, t, lt_ltb _ _ l)
+    both_go s t a = let l : 0 < c.after = omega arith in rw (← e, ← f, s, t, lt-ltb _ _ l)
 
     pub one_left : p ≡ true → q ≡ false → true ≡ bound h c d
     unfolding bound
@@ -120,7 +120,7 @@ module _ (c d : Cell) where
         go true f = rw f
         go false f =
             let k : d.lane ≤ c.lane = ltb-false _ _ f in
-            rw (f, eq_eqb c.lane d.lane (omega arith), lt_ltb c.beat d.beat (omega arith))
+            rw (f, eq-eqb c.lane d.lane (omega arith), lt-ltb c.beat d.beat (omega arith))
 
     no_partners : x < y → (same_beat c d ≡ false) × (partners δ c d ≡ false)
     unfolding same_beat partners
@@ -146,12 +146,12 @@ module _ (c d : Cell) where
     order_no t u = go (eqb c.lane d.lane) refl
       where
         no : ltb c.lane d.lane ≡ false
-        no = le_ltb c.lane d.lane (omega arith)
+        no = le-ltb c.lane d.lane (omega arith)
 
         go : (p : Bool) → eqb c.lane d.lane ≡ p → false ≡ neighbours δ c d
         go true f =
             let k : c.lane ≡ d.lane = eqb-true _ _ f in
-            rw (no, f, le_ltb c.beat d.beat (omega arith), ne_eqb c.beat d.beat (λ z. omega arith))
+            rw (no, f, le-ltb c.beat d.beat (omega arith), ne_eqb c.beat d.beat (λ z. omega arith))
         go false f = rw (no, f)
 
   -- two cells of which neither is of a piece that fills its beat
@@ -166,25 +166,25 @@ module _ (c d : Cell) where
     by_side : cell_before c d ≡ ltb c.side d.side
     unfolding cell_before
     by_side =
-        rw (le_ltb c.lane d.lane (omega arith), eq_eqb c.lane d.lane l, le_ltb c.beat d.beat (omega arith), eq_eqb c.beat d.beat b)
+        rw (le-ltb c.lane d.lane (omega arith), eq-eqb c.lane d.lane l, le-ltb c.beat d.beat (omega arith), eq-eqb c.beat d.beat b)
 
     pub side_no : d.side ≤ c.side → false ≡ neighbours δ c d
     unfolding neighbours
-    side_no t = rw (by_side, le_ltb _ _ t)
+    side_no t = rw (by_side, le-ltb _ _ t)
 
     module _ (t : c.side < d.side) {q : Bool} (f : q ≡ fills δ c) where
       pub first-fills : q ≡ true → {s : Bool} → s ≡ partners δ c d → s ≡ neighbours δ c d
       unfolding neighbours
-      first-fills u g = rw (by_side, lt_ltb _ _ t, ← f, u, ← g)
+      first-fills u g = rw (by_side, lt-ltb _ _ t, ← f, u, ← g)
 
       module _ (u : q ≡ false) {r : Bool} (g : r ≡ filled δ d) where
         pub second_filled : r ≡ true → {s : Bool} → s ≡ partners δ c d → s ≡ neighbours δ c d
         unfolding neighbours
-        second_filled v k = rw (by_side, lt_ltb _ _ t, ← f, u, ← g, v, ← k)
+        second_filled v k = rw (by_side, lt-ltb _ _ t, ← f, u, ← g, v, ← k)
 
         pub by_gap : r ≡ false → leb (c.after + d.before) δ ≡ neighbours δ c d
         unfolding neighbours same_beat
-        by_gap v = rw (by_side, lt_ltb _ _ t, ← f, u, ← g, v, eq_eqb c.lane d.lane l, eq_eqb c.beat d.beat b)
+        by_gap v = rw (by_side, lt-ltb _ _ t, ← f, u, ← g, v, eq-eqb c.lane d.lane l, eq-eqb c.beat d.beat b)
 
 -- ---- where a piece lies
 
@@ -207,43 +207,43 @@ module _ (δ : ℕ) (n : Note) where
 
     pub inside_not : n.start ≤ b * δ → false ≡ inside δ n
     unfolding inside_at
-    inside_not l = rw (le_ltb _ _ (rw is at l))
+    inside_not l = rw (le-ltb _ _ (rw is at l))
 
     pub inside_end : b * δ < n.start → ltb n.end (b * δ + δ) ≡ inside δ n
     unfolding inside_at
     inside_end l =
         let e : n.start / δ * δ + δ ≡ suc (n.start / δ) * δ = omega (arith, suc-mul (n.start / δ) δ) in
-        rw (lt_ltb _ _ (rw is at l), is, e)
+        rw (lt-ltb _ _ (rw is at l), is, e)
 
   -- the note's beat is the cell's, or not
   module _ (c : Cell) {b : ℕ} (is : b ≡ first_beat δ n) where
     pub other_beat : n.lane ≡ c.lane → (b ≡ c.beat → ⊥) → true ≡ clear δ n c
     unfolding clear
-    other_beat l o = rw (eq_eqb _ _ l, ne_eqb (first_beat δ n) c.beat (λ e. o (is ∙ e)))
+    other_beat l o = rw (eq-eqb _ _ l, ne_eqb (first_beat δ n) c.beat (λ e. o (is ∙ e)))
 
     pub opening-clear : n.lane ≡ c.lane → b ≡ c.beat → c.side ≡ 0 → leb (b * δ + c.after) n.start ≡ clear δ n c
     unfolding clear
-    opening-clear l o s = rw (eq_eqb _ _ l, eq_eqb (first_beat δ n) c.beat (sym is ∙ o), eq_eqb _ _ s, o)
+    opening-clear l o s = rw (eq-eqb _ _ l, eq-eqb (first_beat δ n) c.beat (sym is ∙ o), eq-eqb _ _ s, o)
 
     pub closing-clear : n.lane ≡ c.lane → b ≡ c.beat → (c.side ≡ 0 → ⊥) → leb (n.end + c.before) (b * δ + δ) ≡ clear δ n c
     unfolding clear
     closing-clear l o s =
         let e : c.beat * δ + δ ≡ suc c.beat * δ = omega (arith, suc-mul c.beat δ) in
-        rw (eq_eqb _ _ l, eq_eqb (first_beat δ n) c.beat (sym is ∙ o), ne_eqb _ _ s, o, e)
+        rw (eq-eqb _ _ l, eq-eqb (first_beat δ n) c.beat (sym is ∙ o), ne_eqb _ _ s, o, e)
 
 -- ---- the note of a run
 
 module _ (δ : ℕ) (n : Note) (c d : Cell) {s : ℕ} (at : s ≡ start_of δ c) where
   pub other_start : n.lane ≡ c.lane → (n.start ≡ s → ⊥) → false ≡ same_note n (note_of_run δ c d)
   unfolding same_note note_of_run
-  other_start l o = rw (eq_eqb _ _ l, ne_eqb n.start (start_of δ c) (λ k. o (k ∙ sym at)))
+  other_start l o = rw (eq-eqb _ _ l, ne_eqb n.start (start_of δ c) (λ k. o (k ∙ sym at)))
 
   module _ {e : ℕ} (to : e ≡ end_of δ d) where
     pub other_end : n.lane ≡ c.lane → n.start ≡ s → (n.end ≡ e → ⊥) → false ≡ same_note n (note_of_run δ c d)
     unfolding same_note note_of_run
     other_end l k o =
-        rw (eq_eqb _ _ l, eq_eqb n.start (start_of δ c) (k ∙ at), ne_eqb n.end (end_of δ d) (λ k. o (k ∙ sym to)))
+        rw (eq-eqb _ _ l, eq-eqb n.start (start_of δ c) (k ∙ at), ne_eqb n.end (end_of δ d) (λ k. o (k ∙ sym to)))
 
     pub by_velocity : n.lane ≡ c.lane → n.start ≡ s → n.end ≡ e → eqb n.velocity c.velocity ≡ same_note n (note_of_run δ c d)
     unfolding same_note note_of_run
-    by_velocity l k m = rw (eq_eqb _ _ l, eq_eqb n.start (start_of δ c) (k ∙ at), eq_eqb n.end (end_of δ d) (m ∙ to))
+    by_velocity l k m = rw (eq-eqb _ _ l, eq-eqb n.start (start_of δ c) (k ∙ at), eq-eqb n.end (end_of δ d) (m ∙ to))

@@ -3,7 +3,7 @@ use mathlib.Core.Path.{◌≡◌, refl, sym, ap}
 use mathlib.Core.List.{List, [], ◌∷◌}
 use Prim.Native.Nat.{ℕ, ◌+◌, ◌/◌, ◌%◌, ◌<◌}
 use native.Mathlib.Omega.{arith}
-use borrow.Author.Tests.{lt_ltb, ltb-true}
+use borrow.Author.Tests.{lt-ltb, ltb-true}
 use lib.Dec.{ltb}
 use lib.ListN.{length}
 use Rattle.midi.specs.Numbers.{quantity_bytes}
@@ -26,7 +26,7 @@ groups n =
 
 pub group_of_few : (n : ℕ) → n < 128 → 1 ≡ length (quantity_bytes n)
 unfolding quantity_bytes
-group_of_few n h = rw (lt_ltb n 128 h, quantity_bytes)
+group_of_few n h = rw (lt-ltb n 128 h, quantity_bytes)
 
 pub one_group : (n : ℕ) → length (quantity_bytes n) ≡ 1 → quantity_bytes n ≡ n % 128 ∷ []
 one_group n e = go (groups n) where

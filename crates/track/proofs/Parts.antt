@@ -7,7 +7,7 @@ use native.Mathlib.Numerals.{add-one}
 use native.Mathlib.Omega.{arith}
 use lib.Dec.{leb, ltb, eqb}
 use lib.ListN.{length, get_or}
-use borrow.Author.Tests.{lt_ltb, le_ltb, ltb-true, ltb-false, le_leb, lt-leb, eq_eqb, eqb-true, eqb-false, ne_eqb}
+use borrow.Author.Tests.{lt-ltb, le-ltb, ltb-true, ltb-false, le-leb, lt-leb, eq-eqb, eqb-true, eqb-false, ne_eqb}
 use Rattle.midi.specs.Numbers.{no_quantity, quantity, quantity_at}
 use Rattle.midi.specs.Events.{
   Place,
@@ -48,28 +48,28 @@ pub record Data (s : List ℕ) (q : ℕ) : Type 0 where
 
 module _ (s : List ℕ) (q : ℕ) where
   pub data_cut : length s ≤ q → NoData s q
-  data_cut h = record { none = rw (le_ltb q (length s) h) }
+  data_cut h = record { none = rw (le-ltb q (length s) h) }
 
   pub data_high : q < length s → 128 ≤ get_or s q 0 → NoData s q
-  data_high h k = record { none = rw (lt_ltb q (length s) h, le_ltb (get_or s q 0) 128 k) }
+  data_high h k = record { none = rw (lt-ltb q (length s) h, le-ltb (get_or s q 0) 128 k) }
 
   pub data_low : q < length s → get_or s q 0 < 128 → Data s q
-  data_low h k = record { there = rw (lt_ltb q (length s) h, lt_ltb (get_or s q 0) 128 k) }
+  data_low h k = record { there = rw (lt-ltb q (length s) h, lt-ltb (get_or s q 0) 128 k) }
 
 -- ---- a channel event
 
 module _ (status key velocity : ℕ) where
   pub message_silent : status / 16 ≡ 9 → velocity ≡ 0 → ends (status % 16 * 128 + key) ≡ channel_message status key velocity
   unfolding channel_message
-  message_silent e f = rw (eq_eqb (status / 16) 9 e, channel_message, eq_eqb velocity 0 f)
+  message_silent e f = rw (eq-eqb (status / 16) 9 e, channel_message, eq-eqb velocity 0 f)
 
   pub message_starts : status / 16 ≡ 9 → (velocity ≡ 0 → ⊥) → starts (status % 16 * 128 + key) velocity ≡ channel_message status key velocity
   unfolding channel_message
-  message_starts e f = rw (eq_eqb (status / 16) 9 e, channel_message, ne_eqb velocity 0 f)
+  message_starts e f = rw (eq-eqb (status / 16) 9 e, channel_message, ne_eqb velocity 0 f)
 
   pub message_ends : (status / 16 ≡ 9 → ⊥) → status / 16 ≡ 8 → ends (status % 16 * 128 + key) ≡ channel_message status key velocity
   unfolding channel_message
-  message_ends e f = rw (ne_eqb (status / 16) 9 e, channel_message, eq_eqb (status / 16) 8 f)
+  message_ends e f = rw (ne_eqb (status / 16) 9 e, channel_message, eq-eqb (status / 16) 8 f)
 
   pub message_passed : (status / 16 ≡ 9 → ⊥) → (status / 16 ≡ 8 → ⊥) → passed ≡ channel_message status key velocity
   unfolding channel_message
@@ -91,7 +91,7 @@ module _ (s : List ℕ) (tick status q : ℕ) where
 
   pub channel_one : Data s q → status / 32 ≡ 6 → event (place (q + 1) tick status) passed ≡ channel_at s tick status q
   unfolding channel_at
-  channel_one d f = rw (d.there, channel_at, eq_eqb (status / 32) 6 f, add-one)
+  channel_one d f = rw (d.there, channel_at, eq-eqb (status / 32) 6 f, add-one)
 
   pub channel_two : Data s q → (status / 32 ≡ 6 → ⊥) → second_at s tick status (get_or s q 0) (q + 1) ≡ channel_at s tick status q
   unfolding channel_at second_at
@@ -118,11 +118,11 @@ module _ (s : List ℕ) (tick n p : ℕ) where
 
   pub over_on : p + n ≤ length s → event (place (p + n) tick 0) passed ≡ over_at s tick n p
   unfolding over_at
-  over_on h = rw (le_leb (p + n) (length s) h, over_at)
+  over_on h = rw (le-leb (p + n) (length s) h, over_at)
 
   pub end_there : n ≡ 0 → p ≡ length s → finished tick ≡ end_at s tick n p
   unfolding end_at
-  end_there a b = rw (eq_eqb n 0 a, end_at, eq_eqb p (length s) b)
+  end_there a b = rw (eq-eqb n 0 a, end_at, eq-eqb p (length s) b)
 
   pub end_full : (n ≡ 0 → ⊥) → illegal ≡ end_at s tick n p
   unfolding end_at
@@ -130,7 +130,7 @@ module _ (s : List ℕ) (tick n p : ℕ) where
 
   pub end_early : n ≡ 0 → (p ≡ length s → ⊥) → illegal ≡ end_at s tick n p
   unfolding end_at
-  end_early a b = rw (eq_eqb n 0 a, end_at, ne_eqb p (length s) b)
+  end_early a b = rw (eq-eqb n 0 a, end_at, ne_eqb p (length s) b)
 
 module _ (s : List ℕ) (tick q : ℕ) where
   pub sysex_none : quantity_at s q ≡ no_quantity → illegal ≡ sysex_at s tick q
@@ -160,14 +160,14 @@ module _ (s : List ℕ) (tick q : ℕ) where
 
       pub meta_end : get_or s q 0 ≡ 47 → end_at s tick n p ≡ meta_at s tick q
       unfolding meta_at end_at
-      meta_end k = rw (d.there, meta_at, f) (short_end ∙ same_test (leb (p + n) (length s)) (rw (eq_eqb (get_or s q 0) 47 k)) refl)
+      meta_end k = rw (d.there, meta_at, f) (short_end ∙ same_test (leb (p + n) (length s)) (rw (eq-eqb (get_or s q 0) 47 k)) refl)
         where
           by_end : (a : Bool) → eqb n 0 ≡ a → (b : Bool) → eqb p (length s) ≡ b
               → ◌≡◌ {A = Event} (elim (a && b) [ true ↦ finished tick | false ↦ illegal ]) (elim (leb (p + n) (length s)) [
                 | false ↦ illegal
                 | true ↦ elim (a && b) [ true ↦ finished tick | false ↦ illegal ]
               ])
-          by_end true x true y = rw (le_leb (p + n) (length s) (omega (arith, eqb-true n 0 x, eqb-true p (length s) y)))
+          by_end true x true y = rw (le-leb (p + n) (length s) (omega (arith, eqb-true n 0 x, eqb-true p (length s) y)))
           by_end true x false y = same (leb (p + n) (length s))
           by_end false x b y = same (leb (p + n) (length s))
 
@@ -183,42 +183,42 @@ module _ (s : List ℕ) (tick q : ℕ) where
 module _ (s : List ℕ) (tick status q : ℕ) where
   pub own_channel : status < 240 → channel_at s tick status q ≡ own_status s tick status q
   unfolding own_status
-  own_channel h = rw (lt_ltb status 240 h, own_status)
+  own_channel h = rw (lt-ltb status 240 h, own_status)
 
   pub own_meta : status ≡ 255 → meta_at s tick q ≡ own_status s tick status q
   unfolding own_status
-  own_meta e = rw (le_ltb status 240 (omega arith), own_status, eq_eqb status 255 e)
+  own_meta e = rw (le-ltb status 240 (omega arith), own_status, eq-eqb status 255 e)
 
   pub own_f0 : status ≡ 240 → sysex_at s tick q ≡ own_status s tick status q
   unfolding own_status
-  own_f0 e = rw (le_ltb status 240 (omega arith), own_status, ne_eqb status 255 (λ f. omega arith), eq_eqb status 240 e)
+  own_f0 e = rw (le-ltb status 240 (omega arith), own_status, ne_eqb status 255 (λ f. omega arith), eq-eqb status 240 e)
 
   pub own_f7 : status ≡ 247 → sysex_at s tick q ≡ own_status s tick status q
   unfolding own_status
   own_f7 e =
-      rw (le_ltb status 240 (omega arith), own_status, ne_eqb status 255 (λ f. omega arith), ne_eqb status 240 (λ f. omega arith), eq_eqb status 247 e)
+      rw (le-ltb status 240 (omega arith), own_status, ne_eqb status 255 (λ f. omega arith), ne_eqb status 240 (λ f. omega arith), eq-eqb status 247 e)
 
   pub own-none : 240 ≤ status → (status ≡ 255 → ⊥) → (status ≡ 240 → ⊥) → (status ≡ 247 → ⊥) → illegal ≡ own_status s tick status q
   unfolding own_status
-  own-none h d e f = rw (le_ltb status 240 h, own_status, ne_eqb status 255 d, ne_eqb status 240 e, ne_eqb status 247 f)
+  own-none h d e f = rw (le-ltb status 240 h, own_status, ne_eqb status 255 d, ne_eqb status 240 e, ne_eqb status 247 f)
 
 module _ (s : List ℕ) (tick running q : ℕ) where
   pub behind_cut : length s ≤ q → illegal ≡ behind_time s tick running q
   unfolding behind_time
-  behind_cut h = rw (le_ltb q (length s) h, behind_time)
+  behind_cut h = rw (le-ltb q (length s) h, behind_time)
 
   module _ (h : q < length s) where
     pub behind-own : 128 ≤ get_or s q 0 → own_status s tick (get_or s q 0) (q + 1) ≡ behind_time s tick running q
     unfolding behind_time
-    behind-own k = rw (lt_ltb q (length s) h, behind_time, le_ltb (get_or s q 0) 128 k, add-one)
+    behind-own k = rw (lt-ltb q (length s) h, behind_time, le-ltb (get_or s q 0) 128 k, add-one)
 
     pub behind_bare : get_or s q 0 < 128 → running ≡ 0 → illegal ≡ behind_time s tick running q
     unfolding behind_time
-    behind_bare k e = rw (lt_ltb q (length s) h, behind_time, lt_ltb (get_or s q 0) 128 k, eq_eqb running 0 e)
+    behind_bare k e = rw (lt-ltb q (length s) h, behind_time, lt-ltb (get_or s q 0) 128 k, eq-eqb running 0 e)
 
     pub behind_running : get_or s q 0 < 128 → (running ≡ 0 → ⊥) → channel_at s tick running q ≡ behind_time s tick running q
     unfolding behind_time
-    behind_running k e = rw (lt_ltb q (length s) h, behind_time, lt_ltb (get_or s q 0) 128 k, ne_eqb running 0 e)
+    behind_running k e = rw (lt-ltb q (length s) h, behind_time, lt-ltb (get_or s q 0) 128 k, ne_eqb running 0 e)
 
 -- ---- an event
 
@@ -278,7 +278,7 @@ module _ (s : List ℕ) (p : Place) where
 -- what 8n and 9n say, by the velocity v of the note that they start
 module _ (status key velocity v : ℕ) (note : status / 32 ≡ 4) (low : key < 128) (e : v ≡ cond (ltb status 144) 0 velocity) where
   lane : lane_of (status % 16) key ≡ status % 16 * 128 + key
-  lane = rw (lt_ltb key 128 low) (omega arith)
+  lane = rw (lt-ltb key 128 low) (omega arith)
 
   pub note_plays : message_of (Plays (status % 16) key v) ≡ channel_message status key velocity
   note_plays = rw lane (go (ltb status 144) refl)
@@ -316,10 +316,10 @@ module _ (channel key velocity : ℕ) where
 
   module _ (low : key < 128) where
     pub plays_end : velocity ≡ 0 → message_of (Plays channel key velocity) ≡ ends (128 * channel + key)
-    plays_end z = rw (eq_eqb velocity 0 z, lt_ltb key 128 low)
+    plays_end z = rw (eq-eqb velocity 0 z, lt-ltb key 128 low)
 
     pub plays_start : (velocity ≡ 0 → ⊥) → message_of (Plays channel key velocity) ≡ starts (128 * channel + key) velocity
-    plays_start d = rw (ne_eqb velocity 0 d, lt_ltb key 128 low)
+    plays_start d = rw (ne_eqb velocity 0 d, lt-ltb key 128 low)
 
 -- the bits of three numbers together are at least each
 pub or_most : (a b c n : ℕ) → bit_or (bit_or a b) c < n → (a < n) × (b < n) × (c < n)

@@ -6,7 +6,7 @@ use native.Mathlib.Numerals.{add-one}
 use native.Mathlib.Omega.{arith}
 use lib.Dec.{ltb}
 use lib.ListN.{length, get_or}
-use borrow.Author.Tests.{lt_ltb, le_ltb, ltb-true}
+use borrow.Author.Tests.{lt-ltb, le-ltb, ltb-true}
 use Rattle.midi.specs.Numbers.{Quantity, no_quantity, quantity, quantity_from, quantity_at}
 use Rattle.midi.proofs.Branches.{by_test}
 use Rattle.midi.proofs.Legal.{quantity_inside}
@@ -48,18 +48,18 @@ module _ (left : ℕ) (s : List ℕ) (q sum : ℕ) (some : 0 < left) where
 
   pub group_cut : length s ≤ q → quantity_from left s q sum ≡ no_quantity
   unfolding quantity_from
-  group_cut h = rw (one, le_ltb q (length s) h, quantity_from)
+  group_cut h = rw (one, le-ltb q (length s) h, quantity_from)
 
   pub group_last : q < length s → get_or s q 0 < 128 → quantity_from left s q sum ≡ quantity (sum * 128 + get_or s q 0) (q + 1)
   unfolding quantity_from
-  group_last h k = rw (one, lt_ltb q (length s) h, quantity_from, lt_ltb (get_or s q 0) 128 k, add-one)
+  group_last h k = rw (one, lt-ltb q (length s) h, quantity_from, lt-ltb (get_or s q 0) 128 k, add-one)
 
   pub group_more : q < length s → 128 ≤ get_or s q 0 → quantity_from left s q sum ≡ quantity_from (left - 1) s (q + 1) (sum * 128 + (get_or s q 0 - 128))
   unfolding quantity_from
   group_more h k = ap (λ n. quantity_from n s q sum) one ∙ go
     where
       go : quantity_from (suc (left - 1)) s q sum ≡ quantity_from (left - 1) s (q + 1) (sum * 128 + (get_or s q 0 - 128))
-      go = rw (lt_ltb q (length s) h, quantity_from, le_ltb (get_or s q 0) 128 k, add-one)
+      go = rw (lt-ltb q (length s) h, quantity_from, le-ltb (get_or s q 0) 128 k, add-one)
 
 pub group_none : (left : ℕ) (s : List ℕ) (q sum : ℕ) → left ≤ 0 → quantity_from left s q sum ≡ no_quantity
 unfolding quantity_from

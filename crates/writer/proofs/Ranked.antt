@@ -6,7 +6,7 @@ use Prim.Native.Nat.{ℕ, ◌+◌, ◌-◌, ◌*◌, ◌≤◌}
 use native.Mathlib.Omega.{arith}
 use lib.Dec.{leb}
 use lib.ListN.{length}
-use borrow.Author.Tests.{le_leb}
+use borrow.Author.Tests.{le-leb}
 use Rattle.words.specs.Splice.{splice, splice-append, length-splice}
 use Rattle.radix.specs.Sort.{sort}
 use Rattle.radix.specs.Digits.{by_rank}
@@ -67,7 +67,7 @@ module _ {s : List ℕ} {count δ beats : ℕ} (p : FileAsks s count δ beats) (
 
       module _ {g : ℕ} (e : g ≡ length (quantity_bytes (beats * δ - last))) (out : List ℕ) (fits : 22 + 8 * count + g + 3 ≤ length out) where
         pub dense_fits : leb (length (file_of s count δ beats)) (length out) ≡ true
-        dense_fits = le_leb (length (file_of s count δ beats)) (length out) (omega (arith, file-length p, ap length (left_is p in_order_lem), dense_length e))
+        dense_fits = le-leb (length (file_of s count δ beats)) (length out) (omega (arith, file-length p, ap length (left_is p in_order_lem), dense_length e))
 
         track-put : {mid end : List ℕ} → mid ≡ splice out 22 (window_bytes 0 ks) → end ≡ splice mid (22 + 8 * count) (quantity_bytes (beats * δ - last) ++ end_of_track) → end ≡ splice out 22 (track_left (beats * δ) 0 ks)
         track-put {mid} {end} x y =

@@ -6,7 +6,7 @@ use native.Mathlib.Nat.{not-suc-le-zero, mul-le-mul_right}
 use native.Mathlib.Omega.{arith}
 use lib.Dec.{leb}
 use lib.ListN.{get_or}
-use borrow.Author.Tests.{leb_true}
+use borrow.Author.Tests.{leb-true}
 use Rattle.radix.specs.Sort as S
 use Rattle.order.specs.Events.{lane_at, end_at, events, Follows, Follows.lanes, Follows.ticks, Ordered, length-events}
 use Rattle.order.specs.Runs.{Split, split_length}
@@ -49,7 +49,7 @@ events_again (e ∷ es) a = rw (event-key e a.0, events_again es a.1)
 
 soft-note : {δ beats : ℕ} (n : Note) → Fair δ beats n → n.velocity ≤ 127
 unfolding velocity_ok
-soft-note n f = leb_true n.velocity 127 (and_right (leb 1 n.velocity) (leb n.velocity 127) f.loud)
+soft-note n f = leb-true n.velocity 127 (and_right (leb 1 n.velocity) (leb n.velocity 127) f.loud)
 
 all_sized : (δ beats : ℕ) (ns : List Note) → All (Fair δ beats) ns → All Sized (gather events_of ns)
 all_sized δ beats [] a = tt

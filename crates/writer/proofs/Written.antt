@@ -6,7 +6,7 @@ use Prim.Native.Nat.{ℕ, ◌+◌, ◌-◌, ◌*◌, ◌≤◌}
 use native.Mathlib.Omega.{arith}
 use lib.Dec.{leb}
 use lib.ListN.{length, length-append}
-use borrow.Author.Tests.{le_leb, leb_true}
+use borrow.Author.Tests.{le-leb, leb-true}
 use Rattle.words.specs.Splice.{splice, length-splice, splice-append, splice-append-last}
 use Rattle.radix.specs.Sort.{sort}
 use Rattle.order.specs.Events.{events}
@@ -75,7 +75,7 @@ module _ {s : List ℕ} {count δ beats : ℕ} (a : FileAsks s count δ beats) w
 
     module _ (out : List ℕ) (f : leb (length file) (length out) ≡ true) where
       pub left-room : 22 + length (track_left (beats * δ) 0 ks) ≤ length out
-      left-room = omega (arith, leb_true (length file) (length out) f, file-length, ap length left_is)
+      left-room = omega (arith, leb-true (length file) (length out) f, file-length, ap length left_is)
 
       pub header-room : {mid : List ℕ} → mid ≡ splice out 22 (track_left (beats * δ) 0 ks) → 22 ≤ length mid
       header-room g = omega (arith, left-room, ap length g, length-splice out 22 (track_left (beats * δ) 0 ks))
@@ -93,7 +93,7 @@ module _ {s : List ℕ} {count δ beats : ℕ} (a : FileAsks s count δ beats) w
           rw f (j, k ∙ sym (splice-append-last out 0 (header_bytes δ (length track)) track))
 
   pub bound-fits : (room : ℕ) → 22 + track_most count (beats * δ) ≤ room → true ≡ leb (length file) room
-  bound-fits room h = sym (le_leb (length file) room (omega (arith, file-length, track-bound)))
+  bound-fits room h = sym (le-leb (length file) room (omega (arith, file-length, track-bound)))
 
   pub file-none : (out : List ℕ) → leb (length file) (length out) ≡ false → (0 ≡ count_of file out) × (out ≡ output_of file out)
   file-none out f = rw f (refl, refl)

@@ -3,7 +3,7 @@ use lib.ListN.{length}
 use Prim.Native.Nat.{◌+◌, ◌*◌}
 use Rattle.beat.proofs.Asks.{too_long, no_list, no_room, room}
 use Rattle.session.specs.Listing.{list_of}
-use borrow.Author.Tests.{leb_true, not-true, not-false}
+use borrow.Author.Tests.{leb-true, not-true, not-false}
 use native.Mathlib.Omega.{arith}
 use mathlib.Core.Path.{sym, ap, ◌∙◌}
 use borrow.Author.Rules.{rules}
@@ -20,7 +20,7 @@ returns-then-not-fits c =
 pub overflow_cast-result : goal.overflow_cast-result
 overflow_cast-result c =
     let used = 3 + length c.args.notes.now + 6 * c.in-Cells.cells in
-    omega (arith, leb_true used c.args.h.words (sym c.fits.ensures ∙ not-false _ c.if-not-fits.false-raw))
+    omega (arith, leb-true used c.args.h.words (sym c.fits.ensures ∙ not-false _ c.if-not-fits.false-raw))
 
 pub returns-else-not-fits : goal.returns-else-not-fits
 returns-else-not-fits c =

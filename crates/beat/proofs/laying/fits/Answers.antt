@@ -2,7 +2,7 @@
 use Prim.Native.Nat.{◌+◌, ◌*◌}
 use mathlib.Core.Path.{sym}
 use native.Mathlib.Omega.{arith}
-use borrow.Author.Tests.{lt-leb, le_leb}
+use borrow.Author.Tests.{lt-leb, le-leb}
 use borrow.Author.Rules.{rules}
 use Rattle.beat.proofs.laying.fits.Goals as goal
 
@@ -17,4 +17,4 @@ returns-then-room-cells c =
     sym (lt-leb (3 + a.list + 6 * a.cells) a.shelf-words (omega arith))
 
 pub returns : goal.returns
-returns c = search (lt-leb, le_leb, arith)
+returns c = search (lt-leb, le-leb, arith)

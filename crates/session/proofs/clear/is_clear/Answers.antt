@@ -2,13 +2,13 @@
 use Rattle.session.proofs.WaysOut.{beat_line, other_beat, opening-clear, closing-clear}
 use Rattle.laws.specs.Chain.{clear}
 use native.Mathlib.Omega.{arith}
-use borrow.Author.Tests.{lt_ltb, le_ltb, lt-leb, le_leb, eq_eqb, ne_eqb}
+use borrow.Author.Tests.{lt-ltb, le-ltb, lt-leb, le-leb, eq-eqb, ne_eqb}
 use borrow.Author.Rules.{rules}
 use Rattle.session.proofs.clear.is_clear.Goals as goal
 
 pub returns-then-n-c : goal.returns-then-n-c
 unfolding clear
-returns-then-n-c c = search (lt_ltb, le_ltb, lt-leb, le_leb, eq_eqb, ne_eqb, arith)
+returns-then-n-c c = search (lt-ltb, le-ltb, lt-leb, le-leb, eq-eqb, ne_eqb, arith)
 
 pub returns-then-beat-c : goal.returns-then-beat-c
 returns-then-beat-c c = other_beat _ _ _ c.requires.1 c.if-n-c.false c.if-beat-c.true

@@ -3,7 +3,7 @@ use Prim.Native.Nat.{◌+◌}
 use Rattle.session.proofs.WaysOut.{product_fits, end_close}
 use Rattle.model.specs.Binding.{end_of}
 use native.Mathlib.Omega.{arith}
-use borrow.Author.Tests.{lt_ltb, le_ltb, lt-leb, le_leb, eq_eqb, ne_eqb}
+use borrow.Author.Tests.{lt-ltb, le-ltb, lt-leb, le-leb, eq-eqb, ne_eqb}
 use borrow.Author.Rules.{rules}
 use Rattle.session.proofs.rules.end_of.Goals as goal
 
@@ -15,7 +15,7 @@ overflow_add-result c = omega (arith, product_fits c.args.c.beat c.args.delta (o
 
 pub returns-then-c-eq0 : goal.returns-then-c-eq0
 unfolding end_of
-returns-then-c-eq0 c = search (lt_ltb, le_ltb, lt-leb, le_leb, eq_eqb, ne_eqb, arith)
+returns-then-c-eq0 c = search (lt-ltb, le-ltb, lt-leb, le-leb, eq-eqb, ne_eqb, arith)
 
 pub overflow_mul-result-2 : goal.overflow_mul-result-2
 overflow_mul-result-2 c = omega (arith, product_fits (c.args.c.beat + 1) c.args.delta (omega arith) (omega arith))

@@ -3,7 +3,7 @@ use Prim.Native.Nat.{◌+◌}
 use Rattle.session.proofs.WaysOut.{product_fits, start_close, start_zero}
 use Rattle.model.specs.Binding.{start_of}
 use native.Mathlib.Omega.{arith}
-use borrow.Author.Tests.{lt_ltb, le_ltb, lt-leb, le_leb, eq_eqb, ne_eqb}
+use borrow.Author.Tests.{lt-ltb, le-ltb, lt-leb, le-leb, eq-eqb, ne_eqb}
 use borrow.Author.Rules.{rules}
 use Rattle.session.proofs.rules.start_of.Goals as goal
 
@@ -12,7 +12,7 @@ overflow_mul-result c = omega (arith, product_fits c.args.c.beat c.args.delta (o
 
 pub returns-then-c-eq0 : goal.returns-then-c-eq0
 unfolding start_of
-returns-then-c-eq0 c = search (lt_ltb, le_ltb, lt-leb, le_leb, eq_eqb, ne_eqb, arith)
+returns-then-c-eq0 c = search (lt-ltb, le-ltb, lt-leb, le-leb, eq-eqb, ne_eqb, arith)
 
 pub overflow_mul-line : goal.overflow_mul-line
 overflow_mul-line c = omega (arith, product_fits (c.args.c.beat + 1) c.args.delta (omega arith) (omega arith))

@@ -1,9 +1,9 @@
 -- `track::cursor::start_velocity` meets its contract.
-use borrow.Author.Tests.{lt_ltb, le_ltb}
+use borrow.Author.Tests.{lt-ltb, le-ltb}
 use Rattle.track.proofs.cursor.start_velocity.Goals as goal
 
 pub returns-then-status-lt144 : goal.returns-then-status-lt144
-returns-then-status-lt144 c = rw (lt_ltb _ _ c.if-status-lt144.true)
+returns-then-status-lt144 c = rw (lt-ltb _ _ c.if-status-lt144.true)
 
 pub returns : goal.returns
-returns c = rw (le_ltb _ _ c.if-status-lt144.false)
+returns c = rw (le-ltb _ _ c.if-status-lt144.false)
