@@ -64,10 +64,12 @@ module _ {A : Type 0} where
   any-rest P h (there a) = a
 
   any_none : (P : A → Type 0) (xs : List A) → All (λ x. P x → ⊥) xs → Any P xs → ⊥
+  any_none P [] a b = elim b [ ]
   any_none P (x ∷ xs) a (here p) = a.0 p
   any_none P (x ∷ xs) a (there b) = any_none P xs a.1 b
 
   some_yes : (p : A → Bool) {xs : List A} → Any (λ x. p x ≡ true) xs → some p xs ≡ true
+  some_yes p {xs = []} b = elim b [ ]
   some_yes p {xs = x ∷ xs} (here e) = or_left (some p xs) e
   some_yes p {xs = x ∷ xs} (there a) = or_right (p x) (some_yes p a)
 

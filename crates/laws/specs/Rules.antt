@@ -186,9 +186,7 @@ module _ (H : Header) where
         or-false (stands_alone H c || left),
         or-false (stands_alone H d),
         add_single d (stands_alone H d || bound_next H d cs) (bound_next H d cs) (pieces H (bound_next H d cs) cs) (not_open H.delta d g),
-        e,
-        add_cell,
-      )
+      ) (rw (e, add_cell))
 
   -- a closing cell at its note's end is bound to nothing
   pub fresh_free : (d : Cell) (cs : List Cell) → d.side ≡ 1 → d.after ≡ 0 → Fresh cs → bound_next H d cs ≡ false

@@ -30,7 +30,7 @@ pub overflow_add-result : goal.overflow_add-result
 overflow_add-result c = omega (arith, tight_inside c.requires.0 c.loop-v.invariant.0)
 
 pub shape_of-out-then-upto-reached : goal.shape_of-out-then-upto-reached
-shape_of-out-then-upto-reached c = omega (arith, tight_long c.requires.0 c.loop-v.invariant.0, c.put_tight_bucket-reached.auto.0)
+shape_of-out-then-upto-reached c = omega (arith, tight_long c.requires.0 c.loop-v.invariant.0, c.put_tight_bucket-reached.auto.out)
 
 pub returns-then-upto-reached : goal.returns-then-upto-reached
 returns-then-upto-reached c = tight_over c.requires.0 c.loop-v.invariant.0 refl c.put_tight_bucket-reached.ensures c.if-upto-reached.true

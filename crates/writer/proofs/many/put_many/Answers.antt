@@ -26,16 +26,16 @@ pub put_header-requires : goal.put_header-requires
 put_header-requires c = (c.requires.0.delta_low, header-room c.requires.0 c.runs-n.ensures.0.all _ (sym c.fits.ensures ∙ not-false _ c.if-not-fits.false-raw) c.put_left-behind.ensures.1)
 
 pub shape_of-pos : goal.shape_of-pos
-shape_of-pos c = c.put_left-behind.auto.1.1.1.0 ∙ c.runs-n.auto.1.1.0 ∙ c.fits.auto.1.1.1.1.0
+shape_of-pos c = c.put_left-behind.auto.pos ∙ c.runs-n.auto.pos ∙ c.fits.auto.pos
 
 pub shape_of-ends : goal.shape_of-ends
-shape_of-ends c = c.runs-n.auto.1.1.1.0 ∙ c.fits.auto.1.1.1.1.1.0
+shape_of-ends c = c.runs-n.auto.ends ∙ c.fits.auto.ends
 
 pub shape_of-to : goal.shape_of-to
-shape_of-to c = c.put_left-behind.auto.1.1.1.1.1.0 ∙ c.fits.auto.1.1.1.1.1.1.0
+shape_of-to c = c.put_left-behind.auto.to ∙ c.fits.auto.to
 
 pub shape_of-a : goal.shape_of-a
-shape_of-a c = c.put_left-behind.auto.1.1.1.1.1.1.0 ∙ c.fits.auto.1.1.1.1.1.1.1.0
+shape_of-a c = c.put_left-behind.auto.a ∙ c.fits.auto.a
 
 pub returns : goal.returns
 returns c = file-put c.requires.0 c.runs-n.ensures.0.all _ (sym c.fits.ensures ∙ not-false _ c.if-not-fits.false-raw) c.put_left-behind.ensures.0 c.put_left-behind.ensures.1 c.put_header.ensures
