@@ -10,4 +10,4 @@ returns-then-s-lt-WORDS c = short c.args.s.now (omega arith)
 
 pub returns : goal.returns
 unfolding header_of
-returns c = c.new.ensures.0
+returns c = c.new.ensures.asked
