@@ -16,5 +16,8 @@ put_note_run-rest-requires c = second_asks c.args.lane c.requires c.put_front-fr
 pub behind_cell_run-cells-requires : goal.behind_cell_run-cells-requires
 behind_cell_run-cells-requires c = second_cells_asks c.args.lane c.requires c.put_front-front.ensures c.behind_seam-left.ensures c.put_note_run-rest.ensures
 
+pub overflow_add-result : goal.overflow_add-result
+overflow_add-result c = omega (arith, behind-room c.args.lane c.requires c.put_front-front.ensures c.behind_seam-left.ensures c.put_note_run-rest.ensures)
+
 pub returns : goal.returns
 returns c = lane-put c.args.lane c.requires c.put_front-front.ensures c.behind_seam-left.ensures c.put_note_run-rest.ensures c.behind_cell_run-cells.ensures c.left_of.ensures c.left_of-2.ensures
