@@ -1,5 +1,5 @@
 -- Split: the number by the way that the questions go, and both halves' words. Assumes nothing.
-use mathlib.Core.Path.{◌≡◌, refl, sym, ◌∙◌}
+use mathlib.Core.Path.{ap, ◌≡◌, refl, sym, ◌∙◌}
 use mathlib.Core.Bool.{Bool, true, false, cond, not, ◌&&◌, and-true}
 use mathlib.Core.List.{List, [], ◌∷◌}
 use Prim.Native.Nat.{ℕ, ◌+◌, ◌≤◌, ◌<◌}
@@ -269,4 +269,4 @@ module _ (s : List ℕ) (i k l r : ℕ) where
       unfolding written
       done z g =
           let is : 0 ≡ number s (split_call i k l r) = sym z ∙ number_is in
-          (is, after-done s (split_call i k l r) is (g ∙ rw same))
+          (is, after-done s (split_call i k l r) is (g ∙ ap (λ (g : Header). put_all g s (results g s (split_call i k l r))) same))

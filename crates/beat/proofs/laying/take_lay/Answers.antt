@@ -17,10 +17,12 @@ put_list-requires c = lay_asks _ _ _ _ (granted_means _ _ _ (sym (ap entry_of c.
 pub returns-in-Cells : goal.returns-in-Cells
 returns-in-Cells c =
     let yes_all = sym (ap lay_of c.in-Cells.is) ∙ c.asked-answer.ensures in
-    lay_done _ _ _ _ (granted_means _ _ _ (sym (ap entry_of c.in-Granted.is) ∙ c.enter-entry.ensures)) (laid_means _ _ _ _ yes_all) yes_all c.put_list.ensures
+    record { number = (lay_done _ _ _ _ (granted_means _ _ _ (sym (ap entry_of c.in-Granted.is) ∙ c.enter-entry.ensures)) (laid_means _ _ _ _ yes_all) yes_all c.put_list.ensures).0; words = (lay_done _ _ _ _ (granted_means _ _ _ (sym (ap entry_of c.in-Granted.is) ∙ c.enter-entry.ensures)) (laid_means _ _ _ _ yes_all) yes_all c.put_list.ensures).1 }
 
 pub returns-in-Refused-answer : goal.returns-in-Refused-answer
-returns-in-Refused-answer c = refused_asked _ _ _ _ (granted_means _ _ _ (sym (ap entry_of c.in-Granted.is) ∙ c.enter-entry.ensures)) _ (sym (ap lay_of c.in-Refused-answer.is) ∙ c.asked-answer.ensures)
+returns-in-Refused-answer c =
+    record { number = (refused_asked _ _ _ _ (granted_means _ _ _ (sym (ap entry_of c.in-Granted.is) ∙ c.enter-entry.ensures)) _ (sym (ap lay_of c.in-Refused-answer.is) ∙ c.asked-answer.ensures)).0; words = (refused_asked _ _ _ _ (granted_means _ _ _ (sym (ap entry_of c.in-Granted.is) ∙ c.enter-entry.ensures)) _ (sym (ap lay_of c.in-Refused-answer.is) ∙ c.asked-answer.ensures)).1 }
 
 pub returns-in-Refused : goal.returns-in-Refused
-returns-in-Refused c = refused_entry _ _ _ _ _ (sym (ap entry_of c.in-Refused.is) ∙ c.enter-entry.ensures)
+returns-in-Refused c =
+    record { number = (refused_entry _ _ _ _ _ (sym (ap entry_of c.in-Refused.is) ∙ c.enter-entry.ensures)).0; words = (refused_entry _ _ _ _ _ (sym (ap entry_of c.in-Refused.is) ∙ c.enter-entry.ensures)).1 }

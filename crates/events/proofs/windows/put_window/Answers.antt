@@ -24,4 +24,4 @@ pub shape_of-out : goal.shape_of-out
 shape_of-out c = c.loop-i.invariant.long
 
 pub returns : goal.returns
-returns c = (counting_over c.loop-i.invariant.counting c.loop-i-test.false, putting_over c.loop-i.invariant c.loop-i-test.false)
+returns c = record { reached = counting_over c.loop-i.invariant.counting c.loop-i-test.false; bytes = putting_over c.loop-i.invariant c.loop-i-test.false }
