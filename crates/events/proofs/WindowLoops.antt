@@ -36,12 +36,12 @@ track-size end ks =
 
 pub timed_window : {end last : ℕ} (ks rest : List ℕ) → Timed end last (ks ++ rest) → end ≤ longest → Timed longest last ks
 timed_window {last = last} [] rest t h = over {last = last} (omega (arith, timed_within t))
-timed_window (k ∷ ks) rest t h = let f = timed_first t in next {k = k} f.on (timed_window ks rest f.rest h)
+timed_window {end = end} {last = last} (k ∷ ks) rest t h = let f = timed_first t in next {k = k} f.on (timed_window {last = tick_of k} ks rest f.rest h)
 
 pub timed_behind : {end last : ℕ} (ks rest : List ℕ) → Timed end last (ks ++ rest) → Timed end (last_tick last ks) rest
 unfolding last_tick
 timed_behind [] rest t = t
-timed_behind (k ∷ ks) rest t = timed_behind ks rest (timed_first t).rest
+timed_behind {end = end} {last = last} (k ∷ ks) rest t = timed_behind {last = tick_of k} ks rest (timed_first t).rest
 
 -- ---- counting
 

@@ -20,4 +20,4 @@ pub put_window-requires : goal.put_window-requires
 put_window-requires c = (read_window c.requires.1 c.requires.2 _ c.bucket_start-from.ensures (search rules) c.read_bucket.ensures, read_room c.requires.1 c.requires.2 _ c.bucket_start-from.ensures (search rules) c.read_bucket.ensures)
 
 pub returns : goal.returns
-returns c = read_bytes c.requires.1 c.requires.2 _ c.bucket_start-from.ensures (search rules) c.read_bucket.ensures c.put_window.ensures.1
+returns c = read_bytes c.requires.1 c.requires.2 _ c.bucket_start-from.ensures (search rules) c.read_bucket.ensures c.put_window.ensures.bytes

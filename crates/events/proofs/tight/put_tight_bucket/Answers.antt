@@ -5,7 +5,7 @@ use Rattle.events.proofs.Sorting.{window_asks, window_short}
 use Rattle.events.proofs.TightLoops.{tight_empty, tight_one, tight_room, tight_not, tight_written}
 use borrow.Author.Rules.{rules}
 use Rattle.events.proofs.tight.put_tight_bucket.Goals as goal
-use Rattle.events.proofs.tight.put_tight_bucket.Goals.{else-not-times_short, then-not-times_short}
+use Rattle.events.proofs.tight.put_tight_bucket.Goals.{then-not-times_short+else-end-reached, else-not-times_short}
 
 pub returns-then-upto-from : goal.returns-then-upto-from
 returns-then-upto-from c = tight_empty c.requires.0 c.if-upto-from.true
@@ -23,7 +23,7 @@ pub returns-then-end-reached : goal.returns-then-end-reached
 returns-then-end-reached c = tight_not c.requires.0 _ c.read_sorted.ensures c.window_length-reached.ensures.0 c.window_length-reached.ensures.1 (omega (arith, c.if-end-reached.true))
 
 pub put_window-requires : goal.put_window-requires
-put_window-requires c = let s = c.requires.0 in let r = c.read_sorted.ensures in (window_asks s _ (search rules) r, tight_room s _ r (elim c.if-not-times_short.branch [ then-not-times_short w ↦ omega (arith, w.2.ensures.0, w.4.left) | else-not-times_short w ↦ c.times_short.ensures (not-false _ w.left) ]))
+put_window-requires c = let s = c.requires.0 in let r = c.read_sorted.ensures in (window_asks s _ (search rules) r, tight_room s _ r (elim c.if-not-times_short.branch [ then-not-times_short+else-end-reached w ↦ omega (arith, w.window_length-reached.ensures.0, w.if-end-reached.false) | else-not-times_short w ↦ c.times_short.ensures w.if-not-times_short.false ]))
 
 pub returns : goal.returns
-returns c = let p = c.put_window.ensures in tight_written c.requires.0 _ c.read_sorted.ensures p.0.0 p.0.1 (elim c.if-not-times_short.branch [ then-not-times_short w ↦ omega (arith, w.2.ensures.0, w.4.left) | else-not-times_short w ↦ c.times_short.ensures (not-false _ w.left) ]) p.1
+returns c = let p = c.put_window.ensures in tight_written c.requires.0 _ c.read_sorted.ensures p.reached.0 p.reached.1 (elim c.if-not-times_short.branch [ then-not-times_short+else-end-reached w ↦ omega (arith, w.window_length-reached.ensures.0, w.if-end-reached.false) | else-not-times_short w ↦ c.times_short.ensures w.if-not-times_short.false ]) p.bytes

@@ -37,7 +37,7 @@ pub loop-left-smaller : goal.loop-left-smaller
 loop-left-smaller c = omega (arith, left_early c.loop-left.invariant.0.counting.ahead c.loop-left-test.true, c.take_window-w.ensures.wide.some)
 
 pub loop-left-preserved : goal.loop-left-preserved
-loop-left-preserved c = (putting_more c.loop-left.invariant.0 c.take_window-w.ensures (omega (arith, c.requires.0.here, c.loop-left.invariant.3)) _ _ _ c.loop-left-test.true c.put_window-r.ensures.0.0 c.put_window-r.ensures.0.1 c.next_width-width.ensures c.put_window-r.ensures.1, search rules, search rules, search rules, search rules, search rules)
+loop-left-preserved c = (putting_more c.loop-left.invariant.0 c.take_window-w.ensures (omega (arith, c.requires.0.here, c.loop-left.invariant.3)) _ _ _ c.loop-left-test.true c.put_window-r.ensures.reached.0 c.put_window-r.ensures.reached.1 c.next_width-width.ensures c.put_window-r.ensures.bytes, search rules, search rules, search rules, search rules, search rules)
 
 pub overflow_sub-end : goal.overflow_sub-end
 overflow_sub-end c = omega (arith, left-within c.loop-left.invariant.0.counting.ahead)
