@@ -5,4 +5,4 @@ use borrow.Author.Rules.{rules}
 use Rattle.reader.proofs.sounding.put_lane.Goals as goal
 
 pub returns : goal.returns
-returns c = let a = c.args in (sym (key-put a.starts.now a.channel a.key c.requires.1 a.start), sym (key-put a.velocities.now a.channel a.key c.requires.1 a.velocity))
+returns c = let a = c.args in record { starts = sym (key-put a.starts.now a.channel a.key c.requires.1 a.start); velocities = sym (key-put a.velocities.now a.channel a.key c.requires.1 a.velocity) }

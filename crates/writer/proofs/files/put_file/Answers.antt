@@ -4,7 +4,7 @@ use native.Mathlib.Omega.{arith}
 use Rattle.writer.proofs.Shelves.{end_short}
 use borrow.Author.Rules.{rules}
 use Rattle.writer.proofs.files.put_file.Goals as goal
-use Rattle.writer.proofs.files.put_file.Goals.{else-beats-delta-le1023, then-beats-delta-le1023}
+use Rattle.writer.proofs.files.put_file.Goals.{then-beats-delta-le1023+else-length-gt0, else-beats-delta-le1023}
 
 pub overflow_mul-beats : goal.overflow_mul-beats
 overflow_mul-beats c = omega (arith, end_short c.requires)
@@ -16,7 +16,7 @@ pub returns-then-length-gt0 : goal.returns-then-length-gt0
 returns-then-length-gt0 c = c.put_dense-length.ensures.done (omega (arith, c.if-length-gt0.true))
 
 pub shape_of-out : goal.shape_of-out
-shape_of-out c = search (rules, (let it : c.if-beats-delta-le1023.out ≡ c.args.out.now = elim c.if-beats-delta-le1023.branch [ then-beats-delta-le1023 w ↦ w.6 ∙ w.2.ensures.kept (omega (arith, w.5.left)) | else-beats-delta-le1023 w ↦ w.1 ] in it))
+shape_of-out c = search (rules, (let it : c.if-beats-delta-le1023.out ≡ c.args.out.now = elim c.if-beats-delta-le1023.branch [ then-beats-delta-le1023+else-length-gt0 w ↦ w.out-is ∙ w.put_dense-length.ensures.kept (omega (arith, w.if-length-gt0.false)) | else-beats-delta-le1023 w ↦ w.out-is ] in it))
 
 pub returns : goal.returns
-returns c = rw ((let it : c.if-beats-delta-le1023.out ≡ c.args.out.now = elim c.if-beats-delta-le1023.branch [ then-beats-delta-le1023 w ↦ w.6 ∙ w.2.ensures.kept (omega (arith, w.5.left)) | else-beats-delta-le1023 w ↦ w.1 ] in it)) at c.put_long_file.ensures
+returns c = rw ((let it : c.if-beats-delta-le1023.out ≡ c.args.out.now = elim c.if-beats-delta-le1023.branch [ then-beats-delta-le1023+else-length-gt0 w ↦ w.out-is ∙ w.put_dense-length.ensures.kept (omega (arith, w.if-length-gt0.false)) | else-beats-delta-le1023 w ↦ w.out-is ] in it)) at c.put_long_file.ensures

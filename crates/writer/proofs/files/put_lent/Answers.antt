@@ -5,7 +5,6 @@ use lib.ListN.{length}
 use Rattle.writer.proofs.Shelves.{ordered, ends_within, end_short}
 use borrow.Author.Rules.{rules}
 use Rattle.writer.proofs.files.put_lent.Goals as goal
-use Rattle.writer.proofs.files.put_lent.Goals.{else-w-gt0, then-w-gt0}
 
 pub overflow_mul-beats : goal.overflow_mul-beats
 overflow_mul-beats c = omega (arith, end_short c.requires.0)
@@ -17,7 +16,4 @@ pub put_wide-requires : goal.put_wide-requires
 put_wide-requires c = let p = c.requires in let t = c.if-plan.true in let n = c.plan.ensures in (record { file = p.0; fair = n.fair t; places = n.places t; fits = c.bucket_ticks-w.ensures.fits c.if-w-gt0.true }, record { starts = p.1.starts; limits = omega (arith, p.1.limits); next = p.1.next; here = p.1.here; there = p.1.there; table = p.1.table })
 
 pub put_many-requires : goal.put_many-requires
-put_many-requires c = let p = c.requires in (p.0, record { starts = p.1.starts; limits = omega (arith, p.1.limits, (let it : length c.if-w-gt0.ends ≡ length c.args.ends.now = elim c.if-w-gt0.branch [ then-w-gt0 w ↦ omega (arith, w.2.kept.1.1.1, ap length w.6) | else-w-gt0 w ↦ omega (arith, ap length w.1) ] in it)); next = p.1.next; here = p.1.here; there = p.1.there; table = p.1.table })
-
-pub shape_of-ends : goal.shape_of-ends
-shape_of-ends c = search (rules, (let it : length c.if-w-gt0.ends ≡ length c.args.ends.now = elim c.if-w-gt0.branch [ then-w-gt0 w ↦ omega (arith, w.2.kept.1.1.1, ap length w.6) | else-w-gt0 w ↦ omega (arith, ap length w.1) ] in it))
+put_many-requires c = let p = c.requires in (p.0, record { starts = p.1.starts; limits = omega (arith, p.1.limits, c.if-w-gt0.auto.ends); next = p.1.next; here = p.1.here; there = p.1.there; table = p.1.table })
