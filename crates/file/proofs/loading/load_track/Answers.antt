@@ -13,19 +13,25 @@ pub fits-requires : goal.fits-requires
 fits-requires c = room_asks c.requires
 
 pub returns-then-not-fits : goal.returns-then-not-fits
-returns-then-not-fits c = track_full c.requires _ (sym (ap counted_of c.in-Recording.is) ∙ c.count_track.ensures.0) c.fits.ensures c.if-not-fits.true-raw
+returns-then-not-fits c =
+    let all = track_full c.requires _ (sym (ap counted_of c.in-Recording.is) ∙ c.count_track.ensures.answer) c.fits.ensures c.if-not-fits.true-raw in
+    record { number = all.0; words = all.1 }
 
 pub overflow_cast-notes : goal.overflow_cast-notes
-overflow_cast-notes c = omega (arith, track-room c.requires _ (sym (ap counted_of c.in-Recording.is) ∙ c.count_track.ensures.0) c.fits.ensures c.if-not-fits.false-raw, room_asks c.requires)
+overflow_cast-notes c = omega (arith, track-room c.requires _ (sym (ap counted_of c.in-Recording.is) ∙ c.count_track.ensures.answer) c.fits.ensures c.if-not-fits.false-raw, room_asks c.requires)
 
 pub overflow_cast-cells : goal.overflow_cast-cells
-overflow_cast-cells c = omega (arith, track-room c.requires _ (sym (ap counted_of c.in-Recording.is) ∙ c.count_track.ensures.0) c.fits.ensures c.if-not-fits.false-raw, room_asks c.requires)
+overflow_cast-cells c = omega (arith, track-room c.requires _ (sym (ap counted_of c.in-Recording.is) ∙ c.count_track.ensures.answer) c.fits.ensures c.if-not-fits.false-raw, room_asks c.requires)
 
 pub put_recording-requires : goal.put_recording-requires
-put_recording-requires c = track_asks c.requires _ (sym (ap counted_of c.in-Recording.is) ∙ c.count_track.ensures.0) c.fits.ensures c.if-not-fits.false-raw c.count_track.ensures.1
+put_recording-requires c = track_asks c.requires _ (sym (ap counted_of c.in-Recording.is) ∙ c.count_track.ensures.answer) c.fits.ensures c.if-not-fits.false-raw c.count_track.ensures.counts
 
 pub returns-else-not-fits : goal.returns-else-not-fits
-returns-else-not-fits c = track-done c.requires _ (sym (ap counted_of c.in-Recording.is) ∙ c.count_track.ensures.0) c.fits.ensures c.if-not-fits.false-raw c.put_recording.ensures
+returns-else-not-fits c =
+    let all = track-done c.requires _ (sym (ap counted_of c.in-Recording.is) ∙ c.count_track.ensures.answer) c.fits.ensures c.if-not-fits.false-raw c.put_recording.ensures in
+    record { number = all.0; words = all.1 }
 
 pub returns-in-Refused : goal.returns-in-Refused
-returns-in-Refused c = track_refused c.requires _ _ (sym (ap counted_of c.in-Refused.is) ∙ c.count_track.ensures.0)
+returns-in-Refused c =
+    let all = track_refused c.requires _ _ (sym (ap counted_of c.in-Refused.is) ∙ c.count_track.ensures.answer) in
+    record { number = all.0; words = all.1 }

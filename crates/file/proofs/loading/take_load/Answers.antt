@@ -21,10 +21,16 @@ pub load_track-requires : goal.load_track-requires
 load_track-requires c = shelf_entered _ _ c.args.file.now (granted_means _ _ _ (sym (ap entry_of c.in-Granted.is) ∙ c.enter-entry.ensures))
 
 pub returns-in-Track : goal.returns-in-Track
-returns-in-Track c = load_by_track _ _ c.args.file.now (granted_means _ _ _ (sym (ap entry_of c.in-Granted.is) ∙ c.enter-entry.ensures)) (sym (ap place_of c.in-Track.is) ∙ c.track_in-found.ensures) c.load_track.ensures
+returns-in-Track c =
+    let all = load_by_track _ _ c.args.file.now (granted_means _ _ _ (sym (ap entry_of c.in-Granted.is) ∙ c.enter-entry.ensures)) (sym (ap place_of c.in-Track.is) ∙ c.track_in-found.ensures) (c.load_track.ensures.number, c.load_track.ensures.words) in
+    record { number = all.0; words = all.1 }
 
 pub returns-in-Refused-found : goal.returns-in-Refused-found
-returns-in-Refused-found c = load_misplaced _ _ c.args.file.now (granted_means _ _ _ (sym (ap entry_of c.in-Granted.is) ∙ c.enter-entry.ensures)) _ (sym (ap place_of c.in-Refused-found.is) ∙ c.track_in-found.ensures)
+returns-in-Refused-found c =
+    let all = load_misplaced _ _ c.args.file.now (granted_means _ _ _ (sym (ap entry_of c.in-Granted.is) ∙ c.enter-entry.ensures)) _ (sym (ap place_of c.in-Refused-found.is) ∙ c.track_in-found.ensures) in
+    record { number = all.0; words = all.1 }
 
 pub returns-in-Refused : goal.returns-in-Refused
-returns-in-Refused c = load_refused _ _ c.args.file.now _ (sym (ap entry_of c.in-Refused.is) ∙ c.enter-entry.ensures)
+returns-in-Refused c =
+    let all = load_refused _ _ c.args.file.now _ (sym (ap entry_of c.in-Refused.is) ∙ c.enter-entry.ensures) in
+    record { number = all.0; words = all.1 }

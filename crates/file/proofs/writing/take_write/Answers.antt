@@ -25,10 +25,16 @@ pub sound-requires : goal.sound-requires
 sound-requires c = let e = (granted_means _ _ _ (sym (ap entry_of c.in-Granted.is) ∙ c.enter-entry.ensures)) in sound_asks _ _ _ (entered_range e) (entered_below e) c.shelf_at-at.ensures
 
 pub returns-then-sound : goal.returns-then-sound
-returns-then-sound c = let e = (granted_means _ _ _ (sym (ap entry_of c.in-Granted.is) ∙ c.enter-entry.ensures)) in write_short _ _ _ e c.args.output.now (sound_is _ _ _ (entered_range e) (entered_below e) c.shelf_at-at.ensures c.sound.ensures) c.if-sound.true c.if-output-lt22.true
+returns-then-sound c =
+    let e = (granted_means _ _ _ (sym (ap entry_of c.in-Granted.is) ∙ c.enter-entry.ensures)) in
+    let all = write_short _ _ _ e c.args.output.now (sound_is _ _ _ (entered_range e) (entered_below e) c.shelf_at-at.ensures c.sound.ensures) c.if-sound.true c.if-output-lt22.true in
+    record { number = all.0; count = all.1.0; output = all.1.1 }
 
 pub returns-then-output-lt22 : goal.returns-then-output-lt22
-returns-then-output-lt22 c = let e = (granted_means _ _ _ (sym (ap entry_of c.in-Granted.is) ∙ c.enter-entry.ensures)) in write_unsound _ _ _ e c.args.output.now (sound_is _ _ _ (entered_range e) (entered_below e) c.shelf_at-at.ensures c.sound.ensures) (ap not c.if-sound.false)
+returns-then-output-lt22 c =
+    let e = (granted_means _ _ _ (sym (ap entry_of c.in-Granted.is) ∙ c.enter-entry.ensures)) in
+    let all = write_unsound _ _ _ e c.args.output.now (sound_is _ _ _ (entered_range e) (entered_below e) c.shelf_at-at.ensures c.sound.ensures) (ap not c.if-sound.false) in
+    record { number = all.0; count = all.1.0; output = all.1.1 }
 
 pub offset_bounds-session-at-in-Granted : goal.offset_bounds-session-at-in-Granted
 offset_bounds-session-at-in-Granted c = let e = (granted_means _ _ _ (sym (ap entry_of c.in-Granted.is) ∙ c.enter-entry.ensures)) in omega (arith, inside_session (entered_range e) (entered_below e) c.shelf_at-at.ensures)
@@ -40,7 +46,10 @@ pub sound-requires-in-Granted : goal.sound-requires-in-Granted
 sound-requires-in-Granted c = let e = (granted_means _ _ _ (sym (ap entry_of c.in-Granted.is) ∙ c.enter-entry.ensures)) in sound_asks _ _ _ (entered_range e) (entered_below e) c.shelf_at-at.ensures
 
 pub returns-then-not-sound : goal.returns-then-not-sound
-returns-then-not-sound c = let e = (granted_means _ _ _ (sym (ap entry_of c.in-Granted.is) ∙ c.enter-entry.ensures)) in write_unsound _ _ _ e c.args.output.now (sound_is _ _ _ (entered_range e) (entered_below e) c.shelf_at-at.ensures c.sound-in-Granted.ensures) c.if-not-sound.true-raw
+returns-then-not-sound c =
+    let e = (granted_means _ _ _ (sym (ap entry_of c.in-Granted.is) ∙ c.enter-entry.ensures)) in
+    let all = write_unsound _ _ _ e c.args.output.now (sound_is _ _ _ (entered_range e) (entered_below e) c.shelf_at-at.ensures c.sound-in-Granted.ensures) c.if-not-sound.true-raw in
+    record { number = all.0; count = all.1.0; output = all.1.1 }
 
 pub offset_bounds-session-at-in-Granted-2 : goal.offset_bounds-session-at-in-Granted-2
 offset_bounds-session-at-in-Granted-2 c = let e = (granted_means _ _ _ (sym (ap entry_of c.in-Granted.is) ∙ c.enter-entry.ensures)) in omega (arith, inside_session (entered_range e) (entered_below e) c.shelf_at-at.ensures)
@@ -52,10 +61,20 @@ pub put_shelf_file-size-requires : goal.put_shelf_file-size-requires
 put_shelf_file-size-requires c = let e = (granted_means _ _ _ (sym (ap entry_of c.in-Granted.is) ∙ c.enter-entry.ensures)) in part_asks _ _ _ (entered_range e) (entered_below e) c.shelf_at-at.ensures c.sound-in-Granted.ensures c.if-not-sound.false-raw
 
 pub returns-then-size-eq0 : goal.returns-then-size-eq0
-returns-then-size-eq0 c = let e = (granted_means _ _ _ (sym (ap entry_of c.in-Granted.is) ∙ c.enter-entry.ensures)) in let p = part_wrote _ _ _ (entered_range e) (entered_below e) c.shelf_at-at.ensures c.args.output.now c.put_shelf_file-size.ensures in write_full _ _ _ e c.args.output.now (sound_is _ _ _ (entered_range e) (entered_below e) c.shelf_at-at.ensures c.sound-in-Granted.ensures) c.if-not-sound.false-raw (part_sound _ _ _ (entered_range e) (entered_below e) c.shelf_at-at.ensures c.sound-in-Granted.ensures c.if-not-sound.false-raw) p.0 p.1 c.if-size-eq0.true
+returns-then-size-eq0 c =
+    let e = (granted_means _ _ _ (sym (ap entry_of c.in-Granted.is) ∙ c.enter-entry.ensures)) in
+    let p = part_wrote _ _ _ (entered_range e) (entered_below e) c.shelf_at-at.ensures c.args.output.now c.put_shelf_file-size.ensures in
+    let all = write_full _ _ _ e c.args.output.now (sound_is _ _ _ (entered_range e) (entered_below e) c.shelf_at-at.ensures c.sound-in-Granted.ensures) c.if-not-sound.false-raw (part_sound _ _ _ (entered_range e) (entered_below e) c.shelf_at-at.ensures c.sound-in-Granted.ensures c.if-not-sound.false-raw) p.0 p.1 c.if-size-eq0.true in
+    record { number = all.0; count = all.1.0; output = all.1.1 }
 
 pub returns-else-size-eq0 : goal.returns-else-size-eq0
-returns-else-size-eq0 c = let e = (granted_means _ _ _ (sym (ap entry_of c.in-Granted.is) ∙ c.enter-entry.ensures)) in let p = part_wrote _ _ _ (entered_range e) (entered_below e) c.shelf_at-at.ensures c.args.output.now c.put_shelf_file-size.ensures in write_done _ _ _ e c.args.output.now (sound_is _ _ _ (entered_range e) (entered_below e) c.shelf_at-at.ensures c.sound-in-Granted.ensures) c.if-not-sound.false-raw (part_sound _ _ _ (entered_range e) (entered_below e) c.shelf_at-at.ensures c.sound-in-Granted.ensures c.if-not-sound.false-raw) p.0 p.1 c.if-size-eq0.false
+returns-else-size-eq0 c =
+    let e = (granted_means _ _ _ (sym (ap entry_of c.in-Granted.is) ∙ c.enter-entry.ensures)) in
+    let p = part_wrote _ _ _ (entered_range e) (entered_below e) c.shelf_at-at.ensures c.args.output.now c.put_shelf_file-size.ensures in
+    let all = write_done _ _ _ e c.args.output.now (sound_is _ _ _ (entered_range e) (entered_below e) c.shelf_at-at.ensures c.sound-in-Granted.ensures) c.if-not-sound.false-raw (part_sound _ _ _ (entered_range e) (entered_below e) c.shelf_at-at.ensures c.sound-in-Granted.ensures c.if-not-sound.false-raw) p.0 p.1 c.if-size-eq0.false in
+    record { number = all.0; count = all.1.0; output = all.1.1 }
 
 pub returns-in-Refused : goal.returns-in-Refused
-returns-in-Refused c = write_refused _ _ c.args.output.now _ (sym (ap entry_of c.in-Refused.is) ∙ c.enter-entry.ensures)
+returns-in-Refused c =
+    let all = write_refused _ _ c.args.output.now _ (sym (ap entry_of c.in-Refused.is) ∙ c.enter-entry.ensures) in
+    record { number = all.0; count = all.1.0; output = all.1.1 }
