@@ -1,6 +1,6 @@
 // The cutter: answers the frames of standard input.
 #![tactic(auto)]
 
-fn main() {
-    frames::program::run();
+fn main(rt: HostRuntime) {
+    frames::program::run(&mut rt.stdin(), &mut rt.stdout());
 }

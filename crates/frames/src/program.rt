@@ -8,13 +8,16 @@ ghost use Rattle.frames.specs.Loop.{block_bytes, out_bytes, ReadWhole, ReadSome,
 
 use crate::input::Progress;
 use crate::{calls, input};
-use libc::{STDIN_FILENO, STDOUT_FILENO};
+use std::io::{Read, Stdin, Stdout, Write};
 
 // The words that a session is kept in.
 const SESSION_WORDS: usize = calls::MAX_SESSION as usize;
 
 // The bytes of answers that are collected before they are written.
 const OUT_BYTES: usize = 65536;
+
+// The bytes of input that are read at once.
+const BLOCK_BYTES: usize = 65536;
 
 // Where reading stands behind a block, and how many bytes of answers were written while it was read.
 #[derive(Drop)]
@@ -23,12 +26,12 @@ struct BlockEnd {
     sent: usize,
 }
 
-// Writes the answers that are collected, the bytes before `end`. Returns how many they are.
-fn flush(out: &[u8], end: usize) -> usize
+// Writes the answers that are collected, the bytes before `end`. Returns how many they are, also where the system does not take them.
+fn flush(to: &mut Stdout, out: &[u8], end: usize) -> usize
     requires { end ≤ length out.now }
     ensures { result ≡ end }
 {
-    io::write_all(STDOUT_FILENO, &out[..end]);
+    let _ = to.write_all(&out[..end]);
     end
 }
 
@@ -58,6 +61,7 @@ fn rewound(p: Progress) -> Progress
 
 // Reads a whole block. The answers are written each time that there is no room for another.
 fn read_block(
+    to: &mut Stdout,
     block: &[u8],
     line: &mut [u8],
     words: &mut [u32],
@@ -70,7 +74,7 @@ fn read_block(
     let mut now = input::read_on(block, line, words, out, rewound(p));
     let mut sent = 0;
     while now.at < block.len() {
-        sent += flush(out, now.end);
+        sent += flush(to, out, now.end);
         now = input::read_on(block, line, words, out, emptied(now));
     }
     BlockEnd {
@@ -79,21 +83,37 @@ fn read_block(
     }
 }
 
+// Reads some bytes into the block. Returns how many: none at the input's end, or where the system cannot read it.
+fn read_some(from: &mut Stdin, block: &mut [u8]) -> usize
+    ensures { result ≤ length block.new }
+{
+    match from.read(block) {
+        Ok(n) => n,
+        Err(_) => 0,
+    }
+}
+
 // Reads standard input to its end.
-fn read_all(line: &mut [u8], words: &mut [u32], out: &mut [u8], p: Progress) -> Progress
+fn read_all(
+    from: &mut Stdin,
+    to: &mut Stdout,
+    line: &mut [u8],
+    words: &mut [u32],
+    out: &mut [u8],
+    p: Progress,
+) -> Progress
     requires { Holds line.old words.old p × (p.end ≤ length out.old) × (length out.old ≡ out_bytes) }
     ensures { ReadSome line.old words.old out.old p line.new words.new out.new result }
 {
-    let mut block = io::large_buffer();
+    let mut block = [0u8; BLOCK_BYTES];
     let mut now = p;
     let mut turns = u64::MAX;
     while turns > 0 {
-        let got = libc::read(STDIN_FILENO, &mut block);
-        if got <= 0 {
+        let n = read_some(from, &mut block);
+        if n == 0 {
             return now;
         }
-        let n = io::count(got, &block);
-        let done = read_block(&block[..n], line, words, out, now);
+        let done = read_block(to, &block[..n], line, words, out, now);
         now = done.progress;
         turns -= 1;
     }
@@ -113,17 +133,17 @@ fn last_line(line: &[u8], words: &mut [u32], out: &mut [u8], p: Progress) -> usi
 }
 
 // Writes all that is collected, and then the answer to the last line. Returns how many bytes these are.
-fn finish(line: &[u8], words: &mut [u32], out: &mut [u8], p: Progress) -> usize
+fn finish(to: &mut Stdout, line: &[u8], words: &mut [u32], out: &mut [u8], p: Progress) -> usize
     requires { Holds line.now words.old p × (p.end ≤ length out.old) × (length out.old ≡ out_bytes) }
     ensures { Last line.now words.old p out.new result }
 {
-    let sent = flush(out, p.end);
+    let sent = flush(to, out, p.end);
     let end = last_line(line, words, out, emptied(p));
-    sent + flush(out, end)
+    sent + flush(to, out, end)
 }
 
 // Answers standard input to its end.
-pub fn run() {
+pub fn run(from: &mut Stdin, to: &mut Stdout) {
     let mut line = [0u8; input::MAX_KEPT];
     let mut words = [0u32; SESSION_WORDS];
     let mut out = [0u8; OUT_BYTES];
@@ -133,6 +153,6 @@ pub fn run() {
         length: 0,
         end: 0,
     };
-    let end = read_all(&mut line, &mut words, &mut out, start);
-    finish(&line, &mut words, &mut out, end);
+    let end = read_all(from, to, &mut line, &mut words, &mut out, start);
+    finish(to, &line, &mut words, &mut out, end);
 }

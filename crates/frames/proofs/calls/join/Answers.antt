@@ -8,4 +8,4 @@ pub returns-then-bytes-ne12 : goal.returns-then-bytes-ne12
 returns-then-bytes-ne12 c = join_wrong _ _ c.if-bytes-ne12.true
 
 pub returns : goal.returns
-returns c = join-done _ _ (omega arith) c.word_at.ensures c.word_at-2.ensures c.word_at-3.ensures c.take_join.ensures
+returns c = join-done _ _ (omega arith) c.word_at.ensures c.word_at-2.ensures c.word_at-3.ensures (c.take_join.ensures.number, c.take_join.ensures.words)

@@ -16,4 +16,4 @@ pub slice_bounds-take_lay-end : goal.slice_bounds-take_lay-end
 slice_bounds-take_lay-end c = sym (length-take-le _ _ c.read_words-count.ensures.1)
 
 pub returns : goal.returns
-returns c = lay_done _ _ (omega arith) (omega arith) c.word_at.ensures c.word_at-2.ensures c.read_words-count.ensures.0 c.read_words-count.ensures.2 c.take_lay.ensures
+returns c = lay_done _ _ (omega arith) (omega arith) c.word_at.ensures c.word_at-2.ensures c.read_words-count.ensures.0 c.read_words-count.ensures.2 (c.take_lay.ensures.number, c.take_lay.ensures.words)

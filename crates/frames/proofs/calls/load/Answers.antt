@@ -8,4 +8,4 @@ pub returns-then-bytes-lt4 : goal.returns-then-bytes-lt4
 returns-then-bytes-lt4 c = load_short _ _ c.if-bytes-lt4.true
 
 pub returns : goal.returns
-returns c = load_done _ _ (omega arith) c.word_at.ensures c.take_load.ensures
+returns c = load_done _ _ (omega arith) c.word_at.ensures (c.take_load.ensures.number, c.take_load.ensures.words)

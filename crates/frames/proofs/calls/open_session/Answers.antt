@@ -8,10 +8,10 @@ use borrow.Author.Rules.{rules}
 use Rattle.frames.proofs.calls.open_session.Goals as goal
 
 pub overflow_mul-asked : goal.overflow_mul-asked
-overflow_mul-asked c = omega (arith, product_fits c.args.shelves c.args.shelf-words (omega arith) (omega arith))
+overflow_mul-asked c = omega (arith, product_fits c.args.shelves c.args.shelf_words (omega arith) (omega arith))
 
 pub overflow_add-asked : goal.overflow_add-asked
-overflow_add-asked c = omega (arith, product_fits c.args.shelves c.args.shelf-words (omega arith) (omega arith))
+overflow_add-asked c = omega (arith, product_fits c.args.shelves c.args.shelf_words (omega arith) (omega arith))
 
 pub returns-then-asked-gt-MAX_SESSION : goal.returns-then-asked-gt-MAX_SESSION
 returns-then-asked-gt-MAX_SESSION c = open_large _ _ c.requires.1 c.requires.0 _ c.if-asked-gt-MAX_SESSION.true
@@ -20,7 +20,7 @@ pub slice_bounds-take_open-end-2 : goal.slice_bounds-take_open-end-2
 slice_bounds-take_open-end-2 c = sym (length-take-le _ _ (omega arith))
 
 pub returns-then-number-ne0 : goal.returns-then-number-ne0
-returns-then-number-ne0 c = open_kept _ _ c.requires.1 c.requires.0 _ (omega arith) c.take_open-number.ensures c.if-number-ne0.true
+returns-then-number-ne0 c = open_kept _ _ c.requires.1 c.requires.0 _ (omega arith) (c.take_open-number.ensures.number, c.take_open-number.ensures.words) c.if-number-ne0.true
 
 pub returns : goal.returns
-returns c = open_accepted _ _ c.requires.1 c.requires.0 _ (omega arith) c.take_open-number.ensures (omega arith)
+returns c = open_accepted _ _ c.requires.1 c.requires.0 _ (omega arith) (c.take_open-number.ensures.number, c.take_open-number.ensures.words) (omega arith)

@@ -8,4 +8,4 @@ pub returns-then-bytes-ne4 : goal.returns-then-bytes-ne4
 returns-then-bytes-ne4 c = write_wrong _ _ c.if-bytes-ne4.true _
 
 pub returns : goal.returns
-returns c = write_done _ _ (omega arith) c.word_at.ensures c.args.output.now c.requires c.take_write-number.ensures.0 c.take_write-number.ensures.1.0 c.take_write-number.ensures.1.1
+returns c = write_done _ _ (omega arith) c.word_at.ensures c.args.output.now c.requires c.take_write-number.ensures.number c.take_write-number.ensures.count c.take_write-number.ensures.output
