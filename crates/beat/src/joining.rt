@@ -69,8 +69,7 @@ fn asked(s: &[u32], h: Header, first: u32, second: u32, res: u32) -> u32
 }
 
 // Joins the takes in two shelves, the second behind the first, into a third. Returns the number of the first question answered no, or 0.
-#[unsafe(no_mangle)]
-pub extern "C" fn take_join(session: &mut [u32], first: u32, second: u32, res: u32) -> u32
+pub fn take_join(session: &mut [u32], first: u32, second: u32, res: u32) -> u32
     ensures number { result ≡ number session.old (join_call first second res) }
     ensures words { session.new ≡ after session.old (join_call first second res) }
 {

@@ -71,8 +71,7 @@ fn put_list(s: &mut [u32], h: Header, shelf: u32, beats: u32, notes: &[u32], cel
 }
 
 // Lays a note list of so many beats in a shelf, with all its cells. Returns the number of the first question answered no, or 0.
-#[unsafe(no_mangle)]
-pub extern "C" fn take_lay(session: &mut [u32], shelf: u32, beats: u32, notes: &[u32]) -> u32
+pub fn take_lay(session: &mut [u32], shelf: u32, beats: u32, notes: &[u32]) -> u32
     ensures number { result ≡ number session.old (lay_call shelf beats notes.now) }
     ensures words { session.new ≡ after session.old (lay_call shelf beats notes.now) }
 {

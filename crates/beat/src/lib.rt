@@ -1,4 +1,4 @@
-// The calls on shelves, exported to C: open, lay, split and join.
+// The calls on shelves: open, lay, split and join.
 #![tactic(auto)]
 
 pub mod cells;

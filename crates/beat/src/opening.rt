@@ -7,8 +7,7 @@ ghost use Rattle.model.specs.Questions.{header_ok, number, after};
 use model::{Header, HeaderAnswer};
 
 // Writes δ, ε, K, W and zeros. Returns 1, and changes nothing, where they are out of range or the list is not as long as they say.
-#[unsafe(no_mangle)]
-pub extern "C" fn take_open(
+pub fn take_open(
     session: &mut [u32],
     delta: u32,
     epsilon: u32,

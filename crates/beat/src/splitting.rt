@@ -70,14 +70,7 @@ fn put_halves(s: &mut [u32], h: Header, take: u32, beat: u32, left: u32, right: 
 
 // Splits a take at a beat: its beats before that beat go to the left shelf, the others to the right shelf. Returns the number of the
 // first question answered no, or 0.
-#[unsafe(no_mangle)]
-pub extern "C" fn take_split(
-    session: &mut [u32],
-    take: u32,
-    beat: u32,
-    left: u32,
-    right: u32,
-) -> u32
+pub fn take_split(session: &mut [u32], take: u32, beat: u32, left: u32, right: u32) -> u32
     ensures number { result ≡ number session.old (split_call take beat left right) }
     ensures words { session.new ≡ after session.old (split_call take beat left right) }
 {

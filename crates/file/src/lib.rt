@@ -1,4 +1,4 @@
-// The calls on files, exported to C: load and write.
+// The calls on files: load and write.
 #![tactic(auto)]
 
 pub mod loading;

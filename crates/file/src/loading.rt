@@ -83,8 +83,7 @@ fn load_track(s: &mut [u32], h: Header, shelf: u32, track: &[u8]) -> u32
 }
 
 // Loads a file in a shelf: its notes are laid. Returns the number of the first question answered no, or 0.
-#[unsafe(no_mangle)]
-pub extern "C" fn take_load(session: &mut [u32], shelf: u32, file: &[u8]) -> u32
+pub fn take_load(session: &mut [u32], shelf: u32, file: &[u8]) -> u32
     ensures number { result ≡ load_number session.old shelf file.now }
     ensures words { session.new ≡ load_after session.old shelf file.now }
 {

@@ -9,8 +9,7 @@ use writer::files;
 // Writes a shelf's file to an output. Returns the number of the first question answered no, or 0; counts the file's bytes, and 0 for a refusal.
 // No file is shorter than its header, 22 bytes. That question 4 stands in two places also keeps the compiler from putting it inside this
 // function, where a write takes a twentieth longer.
-#[unsafe(no_mangle)]
-pub extern "C" fn take_write(session: &[u32], shelf: u32, output: &mut [u8], count: &mut u64) -> u32
+pub fn take_write(session: &[u32], shelf: u32, output: &mut [u8], count: &mut u64) -> u32
     ensures number { result ≡ write_number session.now shelf (length output.old) }
     ensures count { count.new ≡ write_count session.now shelf (length output.old) }
     ensures output { output.new ≡ write_output session.now shelf output.old }
