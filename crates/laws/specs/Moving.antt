@@ -13,7 +13,6 @@ use Rattle.model.specs.Binding.{fills}
 use Rattle.model.specs.Histories.{Recording, history_take, placed, take_of}
 use Rattle.model.specs.Lists.{keep}
 use Rattle.model.specs.Pieces.{first_beat, inside}
-use Rattle.model.specs.Questions.{fits}
 use Rattle.model.specs.Soundness.{filled, notes_ok}
 use Rattle.model.specs.Takes.{Take, by_lane, cell_to, join_takes, later_by, left_of, note_to, right_of, split_left, split_right}
 use Rattle.model.specs.declared.Cell.{Cell}

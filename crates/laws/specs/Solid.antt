@@ -12,7 +12,7 @@ use Rattle.model.specs.Takes.{Take}
 use Rattle.model.specs.declared.Cell.{Cell}
 use Rattle.model.specs.declared.Note.{Note}
 use Rattle.laws.specs.Booleans.{and_left, and_right, and_yes}
-use Rattle.laws.specs.Notes.{Fair, Follow, before}
+use Rattle.laws.specs.Notes.{Fair, Follow}
 use Rattle.laws.specs.Relations.{All, Pairs}
 use Rattle.laws.specs.Rules.{Pieced}
 

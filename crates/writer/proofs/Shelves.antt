@@ -1,14 +1,14 @@
 -- What a shelf's notes give the code that writes them: their order, their ticks, and the bytes of their events. Assumes nothing.
 use mathlib.Core.Path.{◌≡◌, refl, ap, ◌∙◌}
 use mathlib.Core.List.{List, [], ◌∷◌, map}
-use Prim.Native.Nat.{ℕ, suc, ◌+◌, ◌*◌, ◌-◌, ◌≤◌, ◌<◌}
-use native.Mathlib.Nat.{not-suc-le-zero, mul-le-mul_right}
+use Prim.Native.Nat.{ℕ, suc, ◌*◌, ◌≤◌, ◌<◌}
+use native.Mathlib.Nat.{mul-le-mul_right}
 use native.Mathlib.Omega.{arith}
 use lib.Dec.{leb}
 use lib.ListN.{get_or}
 use borrow.Author.Tests.{leb-true}
 use Rattle.radix.specs.Sort as S
-use Rattle.order.specs.Events.{lane_at, end_at, events, Follows, Follows.lanes, Follows.ticks, Ordered, length-events}
+use Rattle.order.specs.Events.{end_at, events, Follows, Follows.lanes, Follows.ticks, Ordered, length-events}
 use Rattle.order.specs.Runs.{Split, split_length}
 use Rattle.model.specs.Lists.{gather}
 use Rattle.model.specs.Limits.{velocity_ok}

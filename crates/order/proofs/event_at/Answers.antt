@@ -1,7 +1,6 @@
 -- `order::event_at` meets its contract.
 use mathlib.Core.Path.{refl, ◌∙◌}
 use Rattle.order.specs.Events.{event_read}
-use borrow.Author.Rules.{rules}
 use Rattle.order.proofs.event_at.Goals as goal
 
 pub returns : goal.returns

@@ -1,10 +1,8 @@
 -- `order::put_all` meets its contract.
 use mathlib.Core.Path.{sym}
-use Prim.Native.Nat.{◌*◌, ◌-◌}
 use native.Mathlib.Omega.{arith}
-use Rattle.order.specs.Events.{events, length-events}
-use Rattle.order.specs.Whole.{Put, put-start, put_more, put_over}
-use borrow.Author.Rules.{rules}
+use Rattle.order.specs.Events.{length-events}
+use Rattle.order.specs.Whole.{put-start, put_more, put_over}
 use Rattle.order.proofs.put_all.Goals as goal
 
 pub loop-e-init : goal.loop-e-init

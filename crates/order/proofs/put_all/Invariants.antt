@@ -1,10 +1,7 @@
 -- `order::put_all` meets its contract.
-use mathlib.Core.Path.{sym}
 use Prim.Native.Nat.{◌*◌, ◌-◌}
-use native.Mathlib.Omega.{arith}
-use Rattle.order.specs.Events.{events, length-events}
-use Rattle.order.specs.Whole.{Put, put-start, put_more, put_over}
-use borrow.Author.Rules.{rules}
+use Rattle.order.specs.Events.{events}
+use Rattle.order.specs.Whole.{Put}
 use Rattle.order.proofs.put_all.Given as goal
 
 abbrev pub invariant-loop-e : goal.invariant-loop-e

@@ -1,8 +1,6 @@
 -- `order::run_end` meets its contract.
-use mathlib.Core.Path.{◌≡◌}
-use Prim.Native.Nat.{ℕ, ◌*◌, ◌-◌, ◌<◌, ◌≤◌}
+use Prim.Native.Nat.{◌*◌}
 use native.Mathlib.Omega.{arith}
-use Rattle.order.specs.Events.{lane_at}
 use Rattle.order.specs.Runs.{run_grow}
 use borrow.Author.Rules.{rules}
 use Rattle.order.proofs.run_end.Goals as goal

@@ -1,10 +1,7 @@
 -- `order::run_end` meets its contract.
 use mathlib.Core.Path.{◌≡◌}
-use Prim.Native.Nat.{ℕ, ◌*◌, ◌-◌, ◌<◌, ◌≤◌}
-use native.Mathlib.Omega.{arith}
+use Prim.Native.Nat.{ℕ, ◌-◌, ◌<◌, ◌≤◌}
 use Rattle.order.specs.Events.{lane_at}
-use Rattle.order.specs.Runs.{run_grow}
-use borrow.Author.Rules.{rules}
 use Rattle.order.proofs.run_end.Given as goal
 
 abbrev pub invariant-loop-i : goal.invariant-loop-i

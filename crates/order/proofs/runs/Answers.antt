@@ -1,9 +1,7 @@
 -- `order::runs` meets its contract: the lanes passed have their notes.
-use mathlib.Core.Path.{◌≡◌, refl}
-use Prim.Native.Nat.{◌-◌, ◌≤◌}
+use mathlib.Core.Path.{refl}
 use native.Mathlib.Omega.{arith}
-use lib.ListN.{length}
-use Rattle.order.specs.Runs.{Runs, runs-start, run-some, runs_more, runs_done}
+use Rattle.order.specs.Runs.{runs-start, run-some, runs_more, runs_done}
 use borrow.Author.Rules.{rules}
 use Rattle.order.proofs.runs.Goals as goal
 

@@ -1,10 +1,8 @@
 -- `order::runs` meets its contract: the lanes passed have their notes.
-use mathlib.Core.Path.{◌≡◌, refl}
+use mathlib.Core.Path.{◌≡◌}
 use Prim.Native.Nat.{◌-◌, ◌≤◌}
-use native.Mathlib.Omega.{arith}
 use lib.ListN.{length}
-use Rattle.order.specs.Runs.{Runs, runs-start, run-some, runs_more, runs_done}
-use borrow.Author.Rules.{rules}
+use Rattle.order.specs.Runs.{Runs}
 use Rattle.order.proofs.runs.Given as goal
 
 abbrev pub invariant-loop-i : goal.invariant-loop-i

@@ -1,8 +1,6 @@
 -- `words::copy_from` meets its contract. The measure is how many words are left to copy.
 use mathlib.Core.Path.{refl}
-use Prim.Native.Nat.{◌-◌}
-use Rattle.words.proofs.Copies.{Copies, copies_start, copies_word, copies_done}
-use borrow.Author.Rules.{rules}
+use Rattle.words.proofs.Copies.{copies_start, copies_word, copies_done}
 use Rattle.words.proofs.copy_from.Goals as goal
 
 pub loop-k-init : goal.loop-k-init

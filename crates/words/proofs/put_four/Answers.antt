@@ -2,7 +2,6 @@
 use mathlib.Core.Path.{sym}
 use mathlib.Core.List.{[], ◌∷◌}
 use Rattle.words.specs.Splice.{splice_snoc}
-use borrow.Author.Rules.{rules}
 use Rattle.words.proofs.put_four.Goals as goal
 
 pub returns : goal.returns

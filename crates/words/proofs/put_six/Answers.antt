@@ -2,7 +2,6 @@
 use mathlib.Core.Path.{sym, ◌∙◌}
 use mathlib.Core.List.{[], ◌∷◌}
 use Rattle.words.specs.Splice.{splice-append}
-use borrow.Author.Rules.{rules}
 use Rattle.words.proofs.put_six.Goals as goal
 
 pub returns : goal.returns

@@ -3,7 +3,6 @@ use lib.ListN.{length-set}
 use native.Mathlib.Numerals.{unary_clauses}
 use native.Mathlib.Omega.{arith}
 use Rattle.words.specs.Splice.{splice}
-use borrow.Author.Rules.{rules}
 use Rattle.words.proofs.put_three.Goals as goal
 
 pub bounds-s-at-2 : goal.bounds-s-at-2

@@ -1,10 +1,9 @@
 -- `words::zero_fill` meets its contract. What is left to write before each turn is the zeros from `i` up to `to`; the measure is their count.
 --
 use mathlib.Core.Path.{◌≡◌}
-use Prim.Native.Nat.{suc, ◌+◌, ◌-◌, ◌≤◌}
-use lib.ListN.{replicate}
+use Prim.Native.Nat.{suc, ◌+◌, ◌-◌}
 use native.Mathlib.Omega.{arith}
-use Rattle.words.specs.Writes.{Writes, writes_start, writes-word, writes-done}
+use Rattle.words.specs.Writes.{writes_start, writes-word, writes-done}
 use borrow.Author.Rules.{rules}
 use Rattle.words.proofs.zero_fill.Goals as goal
 

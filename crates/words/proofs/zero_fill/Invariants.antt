@@ -1,11 +1,8 @@
 -- `words::zero_fill` meets its contract. What is left to write before each turn is the zeros from `i` up to `to`; the measure is their count.
 --
-use mathlib.Core.Path.{◌≡◌}
-use Prim.Native.Nat.{suc, ◌+◌, ◌-◌, ◌≤◌}
+use Prim.Native.Nat.{◌-◌, ◌≤◌}
 use lib.ListN.{replicate}
-use native.Mathlib.Omega.{arith}
-use Rattle.words.specs.Writes.{Writes, writes_start, writes-word, writes-done}
-use borrow.Author.Rules.{rules}
+use Rattle.words.specs.Writes.{Writes}
 use Rattle.words.proofs.zero_fill.Given as goal
 
 abbrev pub invariant-loop-i : goal.invariant-loop-i

@@ -1,8 +1,6 @@
 -- `beat::cells::put_cells` meets its contract. The measure is how many words of the notes are left.
-use Rattle.beat.proofs.Makes.{Celling, celling_start, room-note, note_asks, celling_note, celled}
-use Prim.Native.Nat.{◌-◌}
+use Rattle.beat.proofs.Makes.{celling_start, room-note, note_asks, celling_note, celled}
 use native.Mathlib.Omega.{arith}
-use borrow.Author.Rules.{rules}
 use Rattle.beat.proofs.cells.put_cells.Goals as goal
 
 pub reciprocal-reciprocal-requires : goal.reciprocal-reciprocal-requires

@@ -1,8 +1,6 @@
 -- `beat::cells::put_cells` meets its contract. The measure is how many words of the notes are left.
-use Rattle.beat.proofs.Makes.{Celling, celling_start, room-note, note_asks, celling_note, celled}
+use Rattle.beat.proofs.Makes.{Celling}
 use Prim.Native.Nat.{◌-◌}
-use native.Mathlib.Omega.{arith}
-use borrow.Author.Rules.{rules}
 use Rattle.beat.proofs.cells.put_cells.Given as goal
 
 abbrev pub invariant-loop-from : goal.invariant-loop-from

@@ -3,7 +3,6 @@ use Rattle.beat.proofs.Makes.{made_early, touched, made_touched}
 use lib.ListN.{length}
 use mathlib.Core.Path.{ap}
 use native.Mathlib.Omega.{arith}
-use borrow.Author.Rules.{rules}
 use Rattle.beat.proofs.cells.put_first.Goals as goal
 
 pub returns-then-line-n : goal.returns-then-line-n

@@ -3,7 +3,6 @@ use Rattle.beat.proofs.Makes.{made_late, touched, made_touched}
 use lib.ListN.{length}
 use mathlib.Core.Path.{ap}
 use native.Mathlib.Omega.{arith}
-use borrow.Author.Rules.{rules}
 use Rattle.beat.proofs.cells.put_last.Goals as goal
 
 pub returns-then-n-line : goal.returns-then-n-line

@@ -1,6 +1,5 @@
 -- `beat::cells::put_line` meets its contract.
 use Rattle.beat.proofs.Makes.{crossed}
-use borrow.Author.Rules.{rules}
 use Rattle.beat.proofs.cells.put_line.Goals as goal
 
 pub returns : goal.returns

@@ -2,8 +2,7 @@
 use Rattle.words.specs.Splice.{length-splice}
 use lib.ListN.{length}
 use mathlib.Core.Path.{ap, ◌∙◌}
-use Rattle.beat.proofs.Makes.{Lining, lining_start, line_asks, lining_line, last_asks, lines-done}
-use Prim.Native.Nat.{◌-◌}
+use Rattle.beat.proofs.Makes.{lining_start, line_asks, lining_line, last_asks, lines-done}
 use native.Mathlib.Omega.{arith}
 use Rattle.beat.proofs.cells.put_lines.Goals as goal
 

@@ -1,10 +1,6 @@
 -- `beat::cells::put_lines` meets its contract. The measure is how many ticks of the note are left.
-use Rattle.words.specs.Splice.{length-splice}
-use lib.ListN.{length}
-use mathlib.Core.Path.{ap, ◌∙◌}
-use Rattle.beat.proofs.Makes.{Lining, lining_start, line_asks, lining_line, last_asks, lines-done}
+use Rattle.beat.proofs.Makes.{Lining}
 use Prim.Native.Nat.{◌-◌}
-use native.Mathlib.Omega.{arith}
 use Rattle.beat.proofs.cells.put_lines.Given as goal
 
 abbrev pub invariant-loop-line : goal.invariant-loop-line

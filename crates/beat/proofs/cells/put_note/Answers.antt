@@ -2,7 +2,6 @@
 use Rattle.beat.proofs.Makes.{first_asks, lines_asks, note_made}
 use Rattle.session.proofs.Counts.{note_beats}
 use native.Mathlib.Omega.{arith}
-use borrow.Author.Rules.{rules}
 use Rattle.beat.proofs.cells.put_note.Goals as goal
 
 pub beat_of-first-requires : goal.beat_of-first-requires

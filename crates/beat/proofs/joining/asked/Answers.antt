@@ -2,7 +2,6 @@
 use native.Mathlib.Omega.{arith}
 use Rattle.model.proofs.Headers.{in_range}
 use Rattle.beat.proofs.Joins.{no_shelf, below_all, same_shelf, not_sound, few_beats, too_long, fit_asks, no_room, all_yes}
-use borrow.Author.Rules.{rules}
 use Rattle.beat.proofs.joining.asked.Goals as goal
 
 pub returns-then-not-shelves_ok : goal.returns-then-not-shelves_ok

@@ -2,7 +2,6 @@
 use native.Mathlib.Omega.{arith}
 use Rattle.model.proofs.Headers.{in_range}
 use Rattle.session.proofs.Sources.{place_asks, inside_session, sound_asks, sound_is}
-use borrow.Author.Rules.{rules}
 use Rattle.beat.proofs.joining.is_sound.Goals as goal
 
 pub shelf_at-at-requires : goal.shelf_at-at-requires

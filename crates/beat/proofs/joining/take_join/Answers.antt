@@ -3,7 +3,6 @@ use Rattle.model.specs.Answers.{answer_of}
 use mathlib.Core.Path.{sym, ap, ◌∙◌}
 use Rattle.beat.proofs.Joins.{no_header, refused, join_asks, done}
 use Rattle.beat.proofs.Splits.{header_ok_lem}
-use borrow.Author.Rules.{rules}
 use Rattle.beat.proofs.joining.take_join.Goals as goal
 
 pub asked-no-requires : goal.asked-no-requires

@@ -6,7 +6,6 @@ use Rattle.session.specs.Listing.{list_of}
 use borrow.Author.Tests.{leb-true, not-true, not-false}
 use native.Mathlib.Omega.{arith}
 use mathlib.Core.Path.{sym, ap, ◌∙◌}
-use borrow.Author.Rules.{rules}
 use Rattle.beat.proofs.laying.asked.Goals as goal
 
 pub returns-then-beats-gt-BEATS : goal.returns-then-beats-gt-BEATS

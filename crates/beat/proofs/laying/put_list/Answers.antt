@@ -1,7 +1,6 @@
 -- `beat::laying::put_list` meets its contract.
 use Rattle.beat.proofs.Lays.{sized, cells_asks, frame_asks, list_laid}
 use native.Mathlib.Omega.{arith}
-use borrow.Author.Rules.{rules}
 use Rattle.beat.proofs.laying.put_list.Goals as goal
 
 pub shelf_at-at-requires : goal.shelf_at-at-requires

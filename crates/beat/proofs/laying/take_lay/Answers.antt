@@ -5,7 +5,6 @@ use Rattle.beat.specs.Laying.{lay_of}
 use Rattle.session.proofs.Entries.{granted_means}
 use Rattle.session.specs.Entering.{entry_of}
 use mathlib.Core.Path.{sym, ap, ◌∙◌}
-use borrow.Author.Rules.{rules}
 use Rattle.beat.proofs.laying.take_lay.Goals as goal
 
 pub asked-answer-requires : goal.asked-answer-requires

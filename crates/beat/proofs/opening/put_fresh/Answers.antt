@@ -2,7 +2,6 @@
 use native.Mathlib.Omega.{arith}
 use Rattle.beat.proofs.Opens.{long_enough, fresh_done}
 use lib.ListN.{length}
-use borrow.Author.Rules.{rules}
 use Rattle.beat.proofs.opening.put_fresh.Goals as goal
 
 pub put_four-requires : goal.put_four-requires

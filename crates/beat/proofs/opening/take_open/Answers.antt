@@ -4,7 +4,6 @@ use Rattle.beat.proofs.Opens.{open_refused, open_done}
 use Rattle.model.proofs.Headers.{valid_means, refused_means}
 use Rattle.model.specs.Answers.{answer_of}
 use mathlib.Core.Path.{sym, ap, ◌∙◌}
-use borrow.Author.Rules.{rules}
 use Rattle.beat.proofs.opening.take_open.Goals as goal
 
 pub put_fresh-requires : goal.put_fresh-requires

@@ -3,7 +3,6 @@ use native.Mathlib.Omega.{arith}
 use Rattle.model.proofs.Headers.{in_range}
 use Rattle.beat.proofs.Splits.{no_shelf, same_shelf, not_sound, too_late, all_yes, shelf-below, beat_behind, beat_inside}
 use Rattle.session.proofs.Sources.{place_asks, inside_session, sound_is, sound_asks}
-use borrow.Author.Rules.{rules}
 use Rattle.beat.proofs.splitting.asked.Goals as goal
 
 pub returns-then-not-shelves_ok : goal.returns-then-not-shelves_ok

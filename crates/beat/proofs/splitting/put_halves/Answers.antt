@@ -2,7 +2,6 @@
 use Rattle.model.proofs.Headers.{in_range}
 use native.Mathlib.Omega.{arith}
 use Rattle.beat.proofs.Splits.{source_asks, source_inside, left_asks, right_asks, both_asks, both-put}
-use borrow.Author.Rules.{rules}
 use Rattle.beat.proofs.splitting.put_halves.Goals as goal
 
 pub shelf_at-at-requires : goal.shelf_at-at-requires

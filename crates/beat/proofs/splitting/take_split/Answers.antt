@@ -2,7 +2,6 @@
 use Rattle.model.specs.Answers.{answer_of}
 use mathlib.Core.Path.{sym, ap, ◌∙◌}
 use Rattle.beat.proofs.Splits.{no_header, header_ok_lem, refused, split_asks, done}
-use borrow.Author.Rules.{rules}
 use Rattle.beat.proofs.splitting.take_split.Goals as goal
 
 pub asked-no-requires : goal.asked-no-requires

@@ -1,8 +1,6 @@
 -- `cuts::counting::count_seams` meets its contract. The measure is how many cells are left of both takes.
 use native.Mathlib.Omega.{arith}
-use Prim.Native.Nat.{◌+◌}
-use Rattle.cuts.proofs.JoinCounts.{Counting, counting_start, left_asks, over_asks, seams_counted, fewer_cells, pairs-room, alone-room, counting_lane}
-use borrow.Author.Rules.{rules}
+use Rattle.cuts.proofs.JoinCounts.{counting_start, left_asks, over_asks, seams_counted, fewer_cells, pairs-room, alone-room, counting_lane}
 use Rattle.cuts.proofs.counting.count_seams.Goals as goal
 
 pub loop-left-init : goal.loop-left-init

@@ -4,7 +4,6 @@ use Rattle.cuts.proofs.HalfWords.{read, contents_asks}
 use Rattle.cuts.proofs.JoinWords.{first_read, second_read, range}
 use Rattle.cuts.proofs.JoinFits.{most_asks, fits-at_once, seams_asks, exact_asks, fits_counted}
 use Rattle.session.proofs.Sources.{place_asks, inside_session, beats_is}
-use borrow.Author.Rules.{rules}
 use Rattle.cuts.proofs.counting.join_fits.Goals as goal
 
 pub shelf_at-at-requires : goal.shelf_at-at-requires

@@ -1,7 +1,6 @@
 -- `cuts::counting::pair_count` meets its contract.
 use native.Mathlib.Omega.{arith}
 use Rattle.cuts.proofs.JoinCounts.{not_bound, one_pair, two_few}
-use borrow.Author.Rules.{rules}
 use Rattle.cuts.proofs.counting.pair_count.Goals as goal
 
 pub returns-then-not-bound_over : goal.returns-then-not-bound_over

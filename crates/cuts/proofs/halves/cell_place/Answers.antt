@@ -1,6 +1,5 @@
 -- `cuts::halves::cell_place` meets its contract.
 use Rattle.cuts.specs.BothHalves.{cell_place}
-use borrow.Author.Rules.{rules}
 use borrow.Author.Tests.{lt-ltb, le-ltb}
 use Rattle.cuts.proofs.halves.cell_place.Goals as goal
 

@@ -1,6 +1,5 @@
 -- `cuts::halves::contents_at` meets its contract.
 use Rattle.cuts.specs.Halving.{contents_at}
-use borrow.Author.Rules.{rules}
 use Rattle.cuts.proofs.halves.contents_at.Goals as goal
 
 pub returns : goal.returns

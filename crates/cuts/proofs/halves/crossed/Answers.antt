@@ -1,6 +1,5 @@
 -- `cuts::halves::crossed` meets its contract.
 use Rattle.cuts.proofs.Parts.{crossed_right, crossed_left}
-use borrow.Author.Rules.{rules}
 use Rattle.cuts.proofs.halves.crossed.Goals as goal
 
 pub returns-then-half : goal.returns-then-half

@@ -2,7 +2,6 @@
 use Rattle.cuts.proofs.Parts.{left-none}
 use native.Mathlib.Nat.{mul-le-mul}
 use native.Mathlib.Omega.{arith}
-use borrow.Author.Rules.{rules}
 use Rattle.cuts.proofs.halves.left_half.Goals as goal
 
 pub returns-then-beat-eq0 : goal.returns-then-beat-eq0

@@ -1,7 +1,6 @@
 -- `cuts::halves::line_cells` meets its contract.
 use native.Mathlib.Omega.{arith}
 use Rattle.cuts.proofs.Parts.{line-right, line-none, line_second, line_first}
-use borrow.Author.Rules.{rules}
 use Rattle.cuts.proofs.halves.line_cells.Goals as goal
 
 pub returns-then-half : goal.returns-then-half

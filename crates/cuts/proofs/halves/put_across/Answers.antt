@@ -1,7 +1,6 @@
 -- `cuts::halves::put_across` meets its contract.
 use native.Mathlib.Omega.{arith}
 use Rattle.cuts.proofs.Parts.{across_none, across_hidden, across_room, across_shown}
-use borrow.Author.Rules.{rules}
 use Rattle.cuts.proofs.halves.put_across.Goals as goal
 
 pub returns-then-at-eq0 : goal.returns-then-at-eq0

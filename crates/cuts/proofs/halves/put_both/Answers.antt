@@ -3,7 +3,6 @@ use native.Mathlib.Omega.{arith}
 use Rattle.session.proofs.Sources.{place_asks}
 use Rattle.cuts.proofs.HalfWords.{range, read, contents_asks}
 use Rattle.cuts.proofs.SplitWords.{notes_asks, cells_asks, left_counts, right_counts, both-put}
-use borrow.Author.Rules.{rules}
 use Rattle.cuts.proofs.halves.put_both.Goals as goal
 
 pub shelf_at-requires : goal.shelf_at-requires

@@ -1,6 +1,5 @@
 -- `cuts::halves::put_cell` meets its contract.
 use Rattle.cuts.proofs.BothParts.{place-room, place-put}
-use borrow.Author.Rules.{rules}
 use Rattle.cuts.proofs.halves.put_cell.Goals as goal
 
 pub put_cell_in-requires : goal.put_cell_in-requires

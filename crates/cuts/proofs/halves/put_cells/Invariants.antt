@@ -1,7 +1,5 @@
 -- `cuts::halves::put_cells` meets its contract. The measure is how many cells are left.
-use native.Mathlib.Omega.{arith}
-use Rattle.cuts.proofs.BothPasses.{Celling, celling_start, cell_place, cell_room, cell_asks, celling_cell, cells-done}
-use borrow.Author.Rules.{rules}
+use Rattle.cuts.proofs.BothPasses.{Celling}
 use Rattle.cuts.proofs.halves.put_cells.Given as goal
 
 abbrev pub invariant-loop-left : goal.invariant-loop-left

@@ -1,6 +1,5 @@
 -- `cuts::halves::put_crossed` meets its contract.
 use Rattle.cuts.proofs.BothParts.{on_asks, found_on, left_asks, right_asks, crossed_put}
-use borrow.Author.Rules.{rules}
 use Rattle.cuts.proofs.halves.put_crossed.Goals as goal
 
 pub cells_from-openings-requires : goal.cells_from-openings-requires

@@ -1,8 +1,6 @@
 -- `cuts::halves::put_notes` meets its contract. The measure is how many notes are left.
 use native.Mathlib.Omega.{arith}
-use Rattle.cuts.proofs.BothPasses.{Noting, noting_start, note-place, note-room, parts_asks, noting_note, notes-done}
-use Rattle.cuts.specs.BothHalves.{places_of}
-use borrow.Author.Rules.{rules}
+use Rattle.cuts.proofs.BothPasses.{noting_start, note-place, note-room, parts_asks, noting_note, notes-done}
 use Rattle.cuts.proofs.halves.put_notes.Goals as goal
 
 pub loop-left-init : goal.loop-left-init

@@ -1,6 +1,5 @@
 -- `cuts::halves::put_parts` meets its contract.
 use Rattle.cuts.proofs.BothParts.{before-room, before-put, behind-room, behind-put}
-use borrow.Author.Rules.{rules}
 use Rattle.cuts.proofs.halves.put_parts.Goals as goal
 
 pub put_four-requires : goal.put_four-requires

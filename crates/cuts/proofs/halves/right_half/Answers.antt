@@ -2,7 +2,6 @@
 use native.Mathlib.Nat.{mul-le-mul}
 use Prim.Native.Nat.{◌≤◌}
 use native.Mathlib.Omega.{arith}
-use borrow.Author.Rules.{rules}
 use Rattle.cuts.proofs.halves.right_half.Reads as reads
 use Rattle.cuts.proofs.halves.right_half.Lts as lts
 use Rattle.cuts.proofs.halves.right_half.Goals as goal

@@ -4,7 +4,6 @@ use Rattle.session.proofs.Sources.{place_asks}
 use Rattle.cuts.proofs.HalfWords.{read, contents_asks}
 use Rattle.cuts.proofs.JoinWords.{range, first_read, second_read}
 use Rattle.cuts.proofs.JoinedWords.{beats_room, notes-place, notes_asks, cells_asks, counted, frame_asks, join-put}
-use borrow.Author.Rules.{rules}
 use Rattle.cuts.proofs.joined.put_joined.Goals as goal
 
 pub beats_at-beats-requires : goal.beats_at-beats-requires

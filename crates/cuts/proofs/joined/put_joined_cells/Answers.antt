@@ -1,7 +1,6 @@
 -- `cuts::joined::put_joined_cells` meets its contract. The measure is how many of the first's cells are left.
 use native.Mathlib.Omega.{arith}
-use Rattle.cuts.proofs.JoinCells.{Joining, joining_start, first_place, first-room, before_asks, some_fewer, at_room, joining_cell, last_asks, joined-room, joined-done}
-use borrow.Author.Rules.{rules}
+use Rattle.cuts.proofs.JoinCells.{joining_start, first_place, first-room, before_asks, some_fewer, at_room, joining_cell, last_asks, joined-room, joined-done}
 use Rattle.cuts.proofs.joined.put_joined_cells.Goals as goal
 
 pub loop-left-init : goal.loop-left-init

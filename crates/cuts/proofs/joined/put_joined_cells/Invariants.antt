@@ -1,7 +1,5 @@
 -- `cuts::joined::put_joined_cells` meets its contract. The measure is how many of the first's cells are left.
-use native.Mathlib.Omega.{arith}
-use Rattle.cuts.proofs.JoinCells.{Joining, joining_start, first_place, first-room, before_asks, some_fewer, at_room, joining_cell, last_asks, joined-room, joined-done}
-use borrow.Author.Rules.{rules}
+use Rattle.cuts.proofs.JoinCells.{Joining}
 use Rattle.cuts.proofs.joined.put_joined_cells.Given as goal
 
 abbrev pub invariant-loop-left : goal.invariant-loop-left

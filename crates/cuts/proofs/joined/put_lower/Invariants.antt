@@ -1,7 +1,5 @@
 -- `cuts::joined::put_lower` meets its contract. The measure is how many cells are left.
-use native.Mathlib.Omega.{arith}
-use Rattle.cuts.proofs.JoinCells.{Lowering, lowering_start, lower-place, lower-inside, lower_movable, lower-room, lowering_cell, lowered_stop, lowered_end}
-use borrow.Author.Rules.{rules}
+use Rattle.cuts.proofs.JoinCells.{Lowering}
 use Rattle.cuts.proofs.joined.put_lower.Given as goal
 
 abbrev pub invariant-loop-rest : goal.invariant-loop-rest

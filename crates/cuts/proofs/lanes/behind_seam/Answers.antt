@@ -1,6 +1,5 @@
 -- `cuts::lanes::behind_seam` meets its contract.
 use Rattle.cuts.proofs.LaneSeam.{back-apart, back_whole, back_none, back_other, back-first}
-use borrow.Author.Rules.{rules}
 use Rattle.cuts.proofs.lanes.behind_seam.Goals as goal
 
 pub returns-then-not-seam : goal.returns-then-not-seam

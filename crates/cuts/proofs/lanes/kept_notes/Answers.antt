@@ -1,6 +1,5 @@
 -- `cuts::lanes::kept_notes` meets its contract.
 use Rattle.cuts.proofs.LaneSeam.{kept-all, kept-none, kept_less}
-use borrow.Author.Rules.{rules}
 use Rattle.cuts.proofs.lanes.kept_notes.Goals as goal
 
 pub returns-then-not-seam : goal.returns-then-not-seam

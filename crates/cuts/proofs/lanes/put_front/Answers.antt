@@ -1,6 +1,5 @@
 -- `cuts::lanes::put_front` meets its contract.
 use Rattle.cuts.proofs.LaneWrites.{first_asks, cell_run_asks, count_few, seam_asks, put_asks, first-put}
-use borrow.Author.Rules.{rules}
 use Rattle.cuts.proofs.lanes.put_front.Goals as goal
 
 pub put_note_run-rest-requires : goal.put_note_run-rest-requires

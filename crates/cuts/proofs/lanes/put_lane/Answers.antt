@@ -1,7 +1,6 @@
 -- `cuts::lanes::put_lane` meets its contract.
 use native.Mathlib.Omega.{arith}
-use Rattle.cuts.proofs.LaneWrites.{back_asks, second_asks, second_cells_asks, back_few, behind-room, lane-put}
-use borrow.Author.Rules.{rules}
+use Rattle.cuts.proofs.LaneWrites.{back_asks, second_asks, second_cells_asks, behind-room, lane-put}
 use Rattle.cuts.proofs.lanes.put_lane.Goals as goal
 
 pub put_front-front-requires : goal.put_front-front-requires

@@ -1,7 +1,6 @@
 -- `cuts::lanes::put_seam` meets its contract.
 use native.Mathlib.Omega.{arith}
 use Rattle.cuts.proofs.LaneSeam.{kept_few, put-apart, over_room, put_over}
-use borrow.Author.Rules.{rules}
 use Rattle.cuts.proofs.lanes.put_seam.Goals as goal
 
 pub returns-then-not-seam : goal.returns-then-not-seam

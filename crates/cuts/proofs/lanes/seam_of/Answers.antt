@@ -1,7 +1,6 @@
 -- `cuts::lanes::seam_of` meets its contract.
 use native.Mathlib.Omega.{arith}
 use Rattle.cuts.proofs.LaneSeam.{seam_no_first, seam_no_second, seam_other, last-inside, seam_unbound, over_asks, seam_bound}
-use borrow.Author.Rules.{rules}
 use Rattle.cuts.proofs.lanes.seam_of.Goals as goal
 
 pub returns-then-cells-first : goal.returns-then-cells-first

@@ -1,11 +1,7 @@
 -- `cuts::seam::behind_cell_run` meets its contract. The measure is how many cells are left.
 use native.Mathlib.Omega.{arith}
-use mathlib.Core.Path.{◌≡◌, refl, ◌∙◌}
-use Prim.Native.Nat.{◌≤◌}
-use Rattle.laws.specs.JoinWalk.{cell_rest}
-use Rattle.session.specs.Reading.{last_cells}
+use mathlib.Core.Path.{refl, ◌∙◌}
 use Rattle.cuts.proofs.JoinSeam.{cells_go, cells_stop, cells_end}
-use borrow.Author.Rules.{rules}
 use Rattle.cuts.proofs.seam.behind_cell_run.Goals as goal
 
 pub loop-rest-init : goal.loop-rest-init

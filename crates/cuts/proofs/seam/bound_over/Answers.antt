@@ -1,7 +1,6 @@
 -- `cuts::seam::bound_over` meets its contract.
 use mathlib.Core.Path.{◌∙◌}
 use Rattle.cuts.proofs.JoinSeam.{over_not_closing, over_not_last, over_not_opening, over_not_first, over_bound}
-use borrow.Author.Rules.{rules}
 use Rattle.cuts.proofs.seam.bound_over.Goals as goal
 
 pub returns-then-c-ne1 : goal.returns-then-c-ne1

@@ -1,7 +1,6 @@
 -- `cuts::seam::cell_lane` meets its contract.
 use native.Mathlib.Omega.{arith}
 use Rattle.cuts.proofs.JoinSeam.{cell-ahead, no_cell-ahead}
-use borrow.Author.Rules.{rules}
 use Rattle.cuts.proofs.seam.cell_lane.Goals as goal
 
 pub returns-then-left-eq0 : goal.returns-then-left-eq0

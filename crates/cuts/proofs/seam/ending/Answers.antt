@@ -1,6 +1,5 @@
 -- `cuts::seam::ending` meets its contract.
 use Rattle.cuts.proofs.JoinSeam.{ending_low}
-use borrow.Author.Rules.{rules}
 use Rattle.cuts.proofs.seam.ending.Goals as goal
 
 pub returns-then-line-c : goal.returns-then-line-c

@@ -1,7 +1,6 @@
 -- `cuts::seam::from_on` meets its contract.
 use mathlib.Core.Path.{◌∙◌}
 use Rattle.cuts.proofs.JoinSeam.{on_end, on_other, on_short, on_note}
-use borrow.Author.Rules.{rules}
 use Rattle.cuts.proofs.seam.from_on.Goals as goal
 
 pub returns-then-left-eq0 : goal.returns-then-left-eq0

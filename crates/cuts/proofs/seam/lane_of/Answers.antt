@@ -1,6 +1,5 @@
 -- `cuts::seam::lane_of` meets its contract.
 use Rattle.cuts.proofs.JoinSeam.{lane_is}
-use borrow.Author.Rules.{rules}
 use Rattle.cuts.proofs.seam.lane_of.Goals as goal
 
 pub returns : goal.returns

@@ -1,6 +1,5 @@
 -- `cuts::seam::least_lane` meets its contract.
 use Rattle.cuts.proofs.JoinSeam.{least_is}
-use borrow.Author.Rules.{rules}
 use Rattle.cuts.proofs.seam.least_lane.Goals as goal
 
 pub returns : goal.returns

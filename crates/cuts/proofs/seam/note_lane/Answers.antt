@@ -1,7 +1,6 @@
 -- `cuts::seam::note_lane` meets its contract.
 use native.Mathlib.Omega.{arith}
 use Rattle.cuts.proofs.JoinSeam.{note-ahead, no_note-ahead}
-use borrow.Author.Rules.{rules}
 use Rattle.cuts.proofs.seam.note_lane.Goals as goal
 
 pub returns-then-left-eq0 : goal.returns-then-left-eq0

@@ -1,7 +1,6 @@
 -- `cuts::seam::put_note_run` meets its contract. The measure is how many notes are left.
 use native.Mathlib.Omega.{arith}
-use Rattle.cuts.proofs.JoinSeam.{Running, running_start, run-place, run_inside, run_shiftable, run_room, running_note, run_over, run_end}
-use borrow.Author.Rules.{rules}
+use Rattle.cuts.proofs.JoinSeam.{running_start, run-place, run_inside, run_shiftable, run_room, running_note, run_over, run_end}
 use Rattle.cuts.proofs.seam.put_note_run.Goals as goal
 
 pub loop-rest-init : goal.loop-rest-init

@@ -1,7 +1,6 @@
 -- `cuts::seam::seam_over` meets its contract.
 use native.Mathlib.Omega.{arith}
 use Rattle.cuts.proofs.JoinSeam.{over_end, over_is}
-use borrow.Author.Rules.{rules}
 use Rattle.cuts.proofs.seam.seam_over.Goals as goal
 
 pub up_to-n-requires : goal.up_to-n-requires

@@ -2,7 +2,6 @@
 use native.Mathlib.Omega.{arith}
 use mathlib.Core.Path.{◌∙◌}
 use Rattle.cuts.proofs.JoinSeam.{up_none, up_short, up_inside, up_last}
-use borrow.Author.Rules.{rules}
 use Rattle.cuts.proofs.seam.up_to.Goals as goal
 
 pub returns-then-rest-left : goal.returns-then-rest-left

@@ -2,7 +2,6 @@
 use Prim.Native.Nat.{◌-◌}
 use native.Mathlib.Omega.{arith}
 use Rattle.events.proofs.BucketLoops.{start_first, start_later}
-use borrow.Author.Rules.{rules}
 use Rattle.events.proofs.emitting.bucket_start.Goals as goal
 
 pub returns-then-v-eq0 : goal.returns-then-v-eq0

@@ -1,8 +1,7 @@
 -- `events::emitting::put_buckets` meets its contract.
-use mathlib.Core.Path.{◌≡◌, refl}
+use mathlib.Core.Path.{refl}
 use native.Mathlib.Omega.{arith}
-use lib.ListN.{length, get_or}
-use Rattle.events.proofs.BucketLoops.{Emitting, emitting_start, emitting_at, emitting_bucket, emitting_next, emitting_over}
+use Rattle.events.proofs.BucketLoops.{emitting_start, emitting_at, emitting_bucket, emitting_next, emitting_over}
 use borrow.Author.Rules.{rules}
 use Rattle.events.proofs.emitting.put_buckets.Goals as goal
 

@@ -1,9 +1,7 @@
 -- `events::emitting::put_buckets` meets its contract.
-use mathlib.Core.Path.{◌≡◌, refl}
-use native.Mathlib.Omega.{arith}
+use mathlib.Core.Path.{◌≡◌}
 use lib.ListN.{length, get_or}
-use Rattle.events.proofs.BucketLoops.{Emitting, emitting_start, emitting_at, emitting_bucket, emitting_next, emitting_over}
-use borrow.Author.Rules.{rules}
+use Rattle.events.proofs.BucketLoops.{Emitting}
 use Rattle.events.proofs.emitting.put_buckets.Given as goal
 
 abbrev pub invariant-loop-v : goal.invariant-loop-v

@@ -1,9 +1,6 @@
 -- `events::tight::put_tight` meets its contract: the bytes of the buckets passed are written.
-use mathlib.Core.Path.{◌≡◌, refl}
-use Prim.Native.Nat.{◌+◌, ◌-◌, ◌*◌}
+use mathlib.Core.Path.{refl}
 use native.Mathlib.Omega.{arith}
-use lib.ListN.{length}
-use Rattle.events.specs.Tight.{TightPut}
 use Rattle.events.proofs.TightLoops.{tight_start, tight_long, tight_inside, tight_bucket, tight_more, last-start, tight_rest, tight_over}
 use borrow.Author.Rules.{rules}
 use Rattle.events.proofs.tight.put_tight.Goals as goal

@@ -1,11 +1,8 @@
 -- `events::tight::put_tight` meets its contract: the bytes of the buckets passed are written.
-use mathlib.Core.Path.{◌≡◌, refl}
+use mathlib.Core.Path.{◌≡◌}
 use Prim.Native.Nat.{◌+◌, ◌-◌, ◌*◌}
-use native.Mathlib.Omega.{arith}
 use lib.ListN.{length}
 use Rattle.events.specs.Tight.{TightPut}
-use Rattle.events.proofs.TightLoops.{tight_start, tight_long, tight_inside, tight_bucket, tight_more, last-start, tight_rest, tight_over}
-use borrow.Author.Rules.{rules}
 use Rattle.events.proofs.tight.put_tight.Given as goal
 
 abbrev pub invariant-loop-v : goal.invariant-loop-v

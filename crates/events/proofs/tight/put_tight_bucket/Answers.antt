@@ -1,6 +1,5 @@
 -- `events::tight::put_tight_bucket` meets its contract.
 use native.Mathlib.Omega.{arith}
-use borrow.Author.Tests.{not-false}
 use Rattle.events.proofs.Sorting.{window_asks, window_short}
 use Rattle.events.proofs.TightLoops.{tight_empty, tight_one, tight_room, tight_not, tight_written}
 use borrow.Author.Rules.{rules}

@@ -5,7 +5,6 @@ use Prim.Native.Nat.{◌-◌}
 use native.Mathlib.Omega.{arith}
 use borrow.Author.Tests.{ltb-true}
 use Rattle.events.proofs.TightLoops.{first-tick, times_short_lem}
-use borrow.Author.Rules.{rules}
 use Rattle.events.proofs.tight.times_short.Goals as goal
 
 pub returns-then-width-gt128 : goal.returns-then-width-gt128

@@ -1,11 +1,7 @@
 -- `events::tracks::length_left` meets its contract.
-use mathlib.Core.Path.{◌≡◌, refl}
-use Prim.Native.Nat.{◌+◌, ◌-◌}
+use mathlib.Core.Path.{refl}
 use native.Mathlib.Omega.{arith}
-use lib.ListN.{length}
-use Rattle.order.specs.Events.{events}
-use Rattle.events.specs.Tracks.{track_left, events_left}
-use Rattle.events.proofs.TrackLoops.{Counting, counting_start, counting_room, counting_more, counting_over, left_early, left-within, left_window, left_fewer}
+use Rattle.events.proofs.TrackLoops.{counting_start, counting_room, counting_more, counting_over, left_early, left-within, left_window, left_fewer}
 use borrow.Author.Rules.{rules}
 use Rattle.events.proofs.tracks.length_left.Goals as goal
 

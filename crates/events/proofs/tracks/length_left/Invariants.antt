@@ -1,12 +1,10 @@
 -- `events::tracks::length_left` meets its contract.
-use mathlib.Core.Path.{◌≡◌, refl}
+use mathlib.Core.Path.{◌≡◌}
 use Prim.Native.Nat.{◌+◌, ◌-◌}
-use native.Mathlib.Omega.{arith}
 use lib.ListN.{length}
 use Rattle.order.specs.Events.{events}
 use Rattle.events.specs.Tracks.{track_left, events_left}
-use Rattle.events.proofs.TrackLoops.{Counting, counting_start, counting_room, counting_more, counting_over, left_early, left-within, left_window, left_fewer}
-use borrow.Author.Rules.{rules}
+use Rattle.events.proofs.TrackLoops.{Counting}
 use Rattle.events.proofs.tracks.length_left.Given as goal
 
 abbrev pub invariant-loop-left : goal.invariant-loop-left

@@ -1,11 +1,7 @@
 -- `events::tracks::put_left` meets its contract.
-use mathlib.Core.Path.{◌≡◌, refl}
-use Prim.Native.Nat.{◌-◌}
+use mathlib.Core.Path.{refl}
 use native.Mathlib.Omega.{arith}
-use lib.ListN.{length}
-use Rattle.order.specs.Events.{events}
-use Rattle.events.specs.Tracks.{track_left, events_left}
-use Rattle.events.proofs.TrackLoops.{Putting, putting_start, putting_more, putting_over, counting_room, counting_over, left_early, left-within, left_window, left_fewer}
+use Rattle.events.proofs.TrackLoops.{putting_start, putting_more, putting_over, counting_room, counting_over, left_early, left-within, left_window, left_fewer}
 use borrow.Author.Rules.{rules}
 use Rattle.events.proofs.tracks.put_left.Goals as goal
 

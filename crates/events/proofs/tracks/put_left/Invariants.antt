@@ -1,12 +1,10 @@
 -- `events::tracks::put_left` meets its contract.
-use mathlib.Core.Path.{◌≡◌, refl}
+use mathlib.Core.Path.{◌≡◌}
 use Prim.Native.Nat.{◌-◌}
-use native.Mathlib.Omega.{arith}
 use lib.ListN.{length}
 use Rattle.order.specs.Events.{events}
 use Rattle.events.specs.Tracks.{track_left, events_left}
-use Rattle.events.proofs.TrackLoops.{Putting, putting_start, putting_more, putting_over, counting_room, counting_over, left_early, left-within, left_window, left_fewer}
-use borrow.Author.Rules.{rules}
+use Rattle.events.proofs.TrackLoops.{Putting}
 use Rattle.events.proofs.tracks.put_left.Given as goal
 
 abbrev pub invariant-loop-left : goal.invariant-loop-left

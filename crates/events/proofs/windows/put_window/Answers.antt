@@ -1,8 +1,6 @@
 -- `events::windows::put_window` meets its contract.
-use Prim.Native.Nat.{◌-◌}
 use native.Mathlib.Omega.{arith}
-use Rattle.events.proofs.WindowLoops.{Putting, putting_start, counting_on, counting_within, counting_room, counting_over, putting_more, putting_over}
-use borrow.Author.Rules.{rules}
+use Rattle.events.proofs.WindowLoops.{putting_start, counting_on, counting_within, counting_room, counting_over, putting_more, putting_over}
 use Rattle.events.proofs.windows.put_window.Goals as goal
 
 pub loop-i-init : goal.loop-i-init

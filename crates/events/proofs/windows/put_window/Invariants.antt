@@ -1,8 +1,6 @@
 -- `events::windows::put_window` meets its contract.
 use Prim.Native.Nat.{◌-◌}
-use native.Mathlib.Omega.{arith}
-use Rattle.events.proofs.WindowLoops.{Putting, putting_start, counting_on, counting_within, counting_room, counting_over, putting_more, putting_over}
-use borrow.Author.Rules.{rules}
+use Rattle.events.proofs.WindowLoops.{Putting}
 use Rattle.events.proofs.windows.put_window.Given as goal
 
 abbrev pub invariant-loop-i : goal.invariant-loop-i

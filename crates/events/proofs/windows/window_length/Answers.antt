@@ -1,8 +1,6 @@
 -- `events::windows::window_length` meets its contract.
-use Prim.Native.Nat.{◌-◌}
 use native.Mathlib.Omega.{arith}
-use Rattle.events.proofs.WindowLoops.{Counting, counting_start, counting_on, counting_within, counting_room, counting_more, counting_over}
-use borrow.Author.Rules.{rules}
+use Rattle.events.proofs.WindowLoops.{counting_start, counting_on, counting_within, counting_room, counting_more, counting_over}
 use Rattle.events.proofs.windows.window_length.Goals as goal
 
 pub loop-i-init : goal.loop-i-init

@@ -3,7 +3,6 @@ use Rattle.model.specs.Takes.{words_used}
 use mathlib.Core.Path.{sym}
 use native.Mathlib.Omega.{arith}
 use borrow.Author.Tests.{lt-leb}
-use borrow.Author.Rules.{rules}
 use Rattle.file.proofs.loading.fits.Goals as goal
 
 pub returns-then-words-notes : goal.returns-then-words-notes

@@ -3,7 +3,6 @@ use Rattle.file.proofs.Loads.{times, room_asks, track_refused, track_full, track
 use Rattle.reader.specs.Counting.{counted_of}
 use mathlib.Core.Path.{refl, sym, ap, ◌∙◌}
 use native.Mathlib.Omega.{arith}
-use borrow.Author.Rules.{rules}
 use Rattle.file.proofs.loading.load_track.Goals as goal
 
 pub count_track-requires : goal.count_track-requires

@@ -1,7 +1,6 @@
 -- `file::loading::put_recording` meets its contract.
 use Rattle.file.proofs.LaidRecordings.{sized, shelf_asks, counts_ask, notes_asks, cells_asks, frame_asks, recording_laid}
 use native.Mathlib.Omega.{arith}
-use borrow.Author.Rules.{rules}
 use Rattle.file.proofs.loading.put_recording.Goals as goal
 
 pub first_places-requires : goal.first_places-requires

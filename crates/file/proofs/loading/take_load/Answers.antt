@@ -5,7 +5,6 @@ use Rattle.session.proofs.Entries.{granted_means}
 use Rattle.session.specs.Entering.{entry_of}
 use mathlib.Core.Path.{sym, ap, ◌∙◌}
 use native.Mathlib.Omega.{arith}
-use borrow.Author.Rules.{rules}
 use Rattle.file.proofs.loading.take_load.Goals as goal
 
 pub slice_bounds-load_track-count : goal.slice_bounds-load_track-count

@@ -6,7 +6,6 @@ use Rattle.session.specs.Entering.{entry_of}
 use native.Mathlib.Omega.{arith}
 use mathlib.Core.Bool.{not}
 use mathlib.Core.Path.{sym, ap, ◌∙◌}
-use borrow.Author.Rules.{rules}
 use Rattle.file.proofs.writing.take_write.Goals as goal
 
 pub shelf_at-at-requires : goal.shelf_at-at-requires

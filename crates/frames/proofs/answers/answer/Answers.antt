@@ -4,7 +4,6 @@ use Rattle.frames.specs.Lines.{frame_in}
 use mathlib.Core.Path.{sym, ap, ◌∙◌}
 use lib.ListN.{length}
 use native.Mathlib.Omega.{arith}
-use borrow.Author.Rules.{rules}
 use Rattle.frames.proofs.answers.answer.Goals as goal
 
 pub returns-then-count-eq0 : goal.returns-then-count-eq0

@@ -3,7 +3,6 @@ use Rattle.frames.proofs.Dispatch.{opened_few, changed_few, frame_open, frame_wr
 use lib.Seq.{length-take-le}
 use mathlib.Core.Path.{sym}
 use native.Mathlib.Omega.{arith}
-use borrow.Author.Rules.{rules}
 use Rattle.frames.proofs.answers.answer_frame.Goals as goal
 
 pub put_number-requires : goal.put_number-requires

@@ -5,7 +5,6 @@ use Rattle.words.specs.Splice.{length-splice}
 use mathlib.Core.Path.{sym, ap, ◌∙◌}
 use lib.ListN.{length}
 use native.Mathlib.Omega.{arith}
-use borrow.Author.Rules.{rules}
 use Rattle.frames.proofs.answers.answer_write.Goals as goal
 
 pub overflow_cast-done : goal.overflow_cast-done

@@ -1,7 +1,6 @@
 -- `frames::answers::change` meets its contract.
 use Rattle.frames.proofs.Carried.{nothing}
 use Rattle.frames.proofs.Dispatch.{change_lay, change_split, change_join, change_load, change_unknown}
-use borrow.Author.Rules.{rules}
 use Rattle.frames.proofs.answers.change.Goals as goal
 
 pub returns-then-call-eq2 : goal.returns-then-call-eq2

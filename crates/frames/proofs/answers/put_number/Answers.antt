@@ -1,6 +1,5 @@
 -- `frames::answers::put_number` meets its contract.
 use Rattle.frames.proofs.Dispatch.{put-line}
-use borrow.Author.Rules.{rules}
 use Rattle.frames.proofs.answers.put_number.Goals as goal
 
 pub returns : goal.returns

@@ -1,7 +1,6 @@
 -- `frames::calls::join` meets its contract.
 use Rattle.frames.proofs.Carried.{join_wrong, join-done}
 use native.Mathlib.Omega.{arith}
-use borrow.Author.Rules.{rules}
 use Rattle.frames.proofs.calls.join.Goals as goal
 
 pub returns-then-bytes-ne12 : goal.returns-then-bytes-ne12

@@ -3,7 +3,6 @@ use mathlib.Core.Path.{sym}
 use lib.Seq.{length-take-le}
 use Rattle.frames.proofs.Carried.{lay-short, lay_incomplete, lay_done}
 use native.Mathlib.Omega.{arith}
-use borrow.Author.Rules.{rules}
 use Rattle.frames.proofs.calls.lay.Goals as goal
 
 pub returns-then-bytes-lt8 : goal.returns-then-bytes-lt8

@@ -1,7 +1,6 @@
 -- `frames::calls::load` meets its contract.
 use Rattle.frames.proofs.Carried.{load_short, load_done}
 use native.Mathlib.Omega.{arith}
-use borrow.Author.Rules.{rules}
 use Rattle.frames.proofs.calls.load.Goals as goal
 
 pub returns-then-bytes-lt4 : goal.returns-then-bytes-lt4

@@ -1,7 +1,6 @@
 -- `frames::calls::open_frame` meets its contract.
 use Rattle.frames.proofs.Carried.{open_wrong, open_right}
 use native.Mathlib.Omega.{arith}
-use borrow.Author.Rules.{rules}
 use Rattle.frames.proofs.calls.open_frame.Goals as goal
 
 pub returns-then-bytes-ne16 : goal.returns-then-bytes-ne16

@@ -4,7 +4,6 @@ use lib.Seq.{length-take-le}
 use Rattle.session.proofs.WaysOut.{product_fits}
 use Rattle.frames.proofs.Carried.{open_large, open_kept, open_accepted}
 use native.Mathlib.Omega.{arith}
-use borrow.Author.Rules.{rules}
 use Rattle.frames.proofs.calls.open_session.Goals as goal
 
 pub overflow_mul-asked : goal.overflow_mul-asked

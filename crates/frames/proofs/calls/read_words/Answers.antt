@@ -1,10 +1,7 @@
 -- `frames::calls::read_words` meets its contract. The measure is how many words are left to read.
 use native.Mathlib.Omega.{arith}
-use mathlib.Core.Path.{◌≡◌, refl}
-use Prim.Native.Nat.{◌-◌, ◌*◌, ◌/◌}
-use lib.ListN.{length}
-use Rattle.frames.proofs.Words.{Reads, words_start, words_word, words_done}
-use borrow.Author.Rules.{rules}
+use mathlib.Core.Path.{refl}
+use Rattle.frames.proofs.Words.{words_start, words_word, words_done}
 use Rattle.frames.proofs.calls.read_words.Goals as goal
 
 pub loop-i-init : goal.loop-i-init

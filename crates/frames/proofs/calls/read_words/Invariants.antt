@@ -1,10 +1,8 @@
 -- `frames::calls::read_words` meets its contract. The measure is how many words are left to read.
-use native.Mathlib.Omega.{arith}
-use mathlib.Core.Path.{◌≡◌, refl}
+use mathlib.Core.Path.{◌≡◌}
 use Prim.Native.Nat.{◌-◌, ◌*◌, ◌/◌}
 use lib.ListN.{length}
-use Rattle.frames.proofs.Words.{Reads, words_start, words_word, words_done}
-use borrow.Author.Rules.{rules}
+use Rattle.frames.proofs.Words.{Reads}
 use Rattle.frames.proofs.calls.read_words.Given as goal
 
 abbrev pub invariant-loop-i : goal.invariant-loop-i

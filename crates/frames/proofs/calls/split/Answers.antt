@@ -1,7 +1,6 @@
 -- `frames::calls::split` meets its contract.
 use Rattle.frames.proofs.Carried.{split_wrong, split_done}
 use native.Mathlib.Omega.{arith}
-use borrow.Author.Rules.{rules}
 use Rattle.frames.proofs.calls.split.Goals as goal
 
 pub returns-then-bytes-ne16 : goal.returns-then-bytes-ne16

@@ -1,7 +1,6 @@
 -- `frames::calls::write` meets its contract.
 use Rattle.frames.proofs.Carried.{write_wrong, write_done}
 use native.Mathlib.Omega.{arith}
-use borrow.Author.Rules.{rules}
 use Rattle.frames.proofs.calls.write.Goals as goal
 
 pub returns-then-bytes-ne4 : goal.returns-then-bytes-ne4

@@ -1,10 +1,8 @@
 -- `frames::digits::decode` meets its contract. The measure is how many bytes are left to read.
-use mathlib.Core.Path.{◌≡◌, refl}
-use native.Mathlib.Omega.{arith}
+use mathlib.Core.Path.{◌≡◌}
 use Prim.Native.Nat.{◌/◌, ◌-◌}
 use lib.ListN.{length}
-use Rattle.frames.proofs.Decoding.{Reads, reads-start, reads_pair, too_long, odd, high_other, low_other, all_read}
-use borrow.Author.Rules.{rules}
+use Rattle.frames.proofs.Decoding.{Reads}
 use Rattle.frames.proofs.digits.decode.Given as goal
 
 abbrev pub invariant-loop-i : goal.invariant-loop-i

@@ -1,7 +1,6 @@
 -- `frames::digits::digit_of` meets its contract.
 use Rattle.frames.proofs.Values.{small_digit, large_digit}
 use native.Mathlib.Omega.{arith}
-use borrow.Author.Rules.{rules}
 use Rattle.frames.proofs.digits.digit_of.Goals as goal
 
 pub returns-then-value-lt10 : goal.returns-then-value-lt10

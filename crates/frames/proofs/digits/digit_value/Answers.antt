@@ -1,6 +1,5 @@
 -- `frames::digits::digit_value` meets its contract.
 use Rattle.frames.proofs.Values.{value_below, value_figure, value_between, value_letter, value_above}
-use borrow.Author.Rules.{rules}
 use native.Mathlib.Omega.{arith}
 use Rattle.frames.proofs.digits.digit_value.Goals as goal
 

@@ -1,7 +1,6 @@
 -- `frames::digits::put_byte` meets its contract: two digits.
 use mathlib.Core.Path.{◌∙◌}
 use Rattle.frames.specs.Digits.{byte_digits}
-use borrow.Author.Rules.{rules}
 use Rattle.frames.proofs.digits.put_byte.Goals as goal
 
 pub returns : goal.returns

@@ -1,9 +1,6 @@
 -- `frames::digits::put_digits` meets its contract. The measure is how many bytes are left.
 use native.Mathlib.Omega.{arith}
-use Prim.Native.Nat.{◌-◌}
-use lib.ListN.{length}
-use Rattle.frames.proofs.Values.{Puts, puts_start, puts_byte, puts_done}
-use borrow.Author.Rules.{rules}
+use Rattle.frames.proofs.Values.{puts_start, puts_byte, puts_done}
 use Rattle.frames.proofs.digits.put_digits.Goals as goal
 
 pub loop-i-init : goal.loop-i-init

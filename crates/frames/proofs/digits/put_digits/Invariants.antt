@@ -1,9 +1,7 @@
 -- `frames::digits::put_digits` meets its contract. The measure is how many bytes are left.
-use native.Mathlib.Omega.{arith}
 use Prim.Native.Nat.{◌-◌}
 use lib.ListN.{length}
-use Rattle.frames.proofs.Values.{Puts, puts_start, puts_byte, puts_done}
-use borrow.Author.Rules.{rules}
+use Rattle.frames.proofs.Values.{Puts}
 use Rattle.frames.proofs.digits.put_digits.Given as goal
 
 abbrev pub invariant-loop-i : goal.invariant-loop-i

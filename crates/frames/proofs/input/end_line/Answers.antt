@@ -3,7 +3,6 @@ use Rattle.frames.proofs.Inputs.{ended}
 use mathlib.Core.Path.{sym}
 use lib.Seq.{length-take-le}
 use native.Mathlib.Omega.{arith}
-use borrow.Author.Rules.{rules}
 use Rattle.frames.proofs.input.end_line.Goals as goal
 
 pub slice_bounds-answer-end : goal.slice_bounds-answer-end

@@ -1,7 +1,6 @@
 -- `frames::input::keep` meets its contract.
 use Rattle.frames.proofs.Inputs.{keep_more, keep-none}
 use native.Mathlib.Omega.{arith}
-use borrow.Author.Rules.{rules}
 use Rattle.frames.proofs.input.keep.Goals as goal
 
 pub returns-then-count-lt-MAX_KEPT : goal.returns-then-count-lt-MAX_KEPT

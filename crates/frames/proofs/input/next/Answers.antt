@@ -1,7 +1,6 @@
 -- `frames::input::next` meets its contract.
 use Rattle.frames.proofs.Inputs.{kept-one}
 use native.Mathlib.Omega.{arith}
-use borrow.Author.Rules.{rules}
 use Rattle.frames.proofs.input.next.Goals as goal
 
 pub returns-then-c-eq10 : goal.returns-then-c-eq10

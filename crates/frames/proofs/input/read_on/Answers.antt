@@ -1,9 +1,6 @@
 -- `frames::input::read_on` meets its contract. The measure is how many bytes of the block are left.
-use Rattle.frames.proofs.Inputs.{Goes, goes_start, goes_on, goes_stop}
-use Prim.Native.Nat.{◌-◌}
-use lib.ListN.{length}
+use Rattle.frames.proofs.Inputs.{goes_start, goes_on, goes_stop}
 use native.Mathlib.Omega.{arith}
-use borrow.Author.Rules.{rules}
 use Rattle.frames.proofs.input.read_on.Goals as goal
 
 pub loop-at-init : goal.loop-at-init

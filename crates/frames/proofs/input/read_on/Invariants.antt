@@ -1,9 +1,7 @@
 -- `frames::input::read_on` meets its contract. The measure is how many bytes of the block are left.
-use Rattle.frames.proofs.Inputs.{Goes, goes_start, goes_on, goes_stop}
+use Rattle.frames.proofs.Inputs.{Goes}
 use Prim.Native.Nat.{◌-◌}
 use lib.ListN.{length}
-use native.Mathlib.Omega.{arith}
-use borrow.Author.Rules.{rules}
 use Rattle.frames.proofs.input.read_on.Given as goal
 
 abbrev pub invariant-loop-at : goal.invariant-loop-at

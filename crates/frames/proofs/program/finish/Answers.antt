@@ -1,7 +1,6 @@
 -- `frames::program::finish` meets its contract.
 use Rattle.frames.proofs.Programs.{holds_moved, moved_end, last_whole}
 use native.Mathlib.Omega.{arith}
-use borrow.Author.Rules.{rules}
 use Rattle.frames.proofs.program.finish.Goals as goal
 
 pub last_line-end-requires : goal.last_line-end-requires

@@ -2,7 +2,6 @@
 use mathlib.Core.Path.{sym}
 use lib.Seq.{length-take-le}
 use native.Mathlib.Omega.{arith}
-use borrow.Author.Rules.{rules}
 use Rattle.frames.proofs.program.flush.Goals as goal
 
 pub slice_bounds-write_all-end : goal.slice_bounds-write_all-end

@@ -1,6 +1,5 @@
 -- `frames::program::last_line` meets its contract.
 use Rattle.frames.proofs.Programs.{last_none, last_some}
-use borrow.Author.Rules.{rules}
 use Rattle.frames.proofs.program.last_line.Goals as goal
 
 pub returns-then-p-eq0 : goal.returns-then-p-eq0

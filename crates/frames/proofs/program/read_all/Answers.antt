@@ -1,9 +1,5 @@
 -- `frames::program::read_all` meets its contract. The measure is the budget of turns.
-use Rattle.frames.specs.Loop.{ReadSome}
 use Rattle.frames.proofs.Programs.{some-none, some_more}
-use mathlib.Core.Path.{◌≡◌}
-use Prim.Native.Nat.{◌≤◌}
-use lib.ListN.{length}
 use lib.Seq.{length-take-le}
 use native.Mathlib.Omega.{arith}
 use borrow.Author.Rules.{rules}

@@ -1,11 +1,8 @@
 -- `frames::program::read_all` meets its contract. The measure is the budget of turns.
 use Rattle.frames.specs.Loop.{ReadSome}
-use Rattle.frames.proofs.Programs.{some-none, some_more}
 use mathlib.Core.Path.{◌≡◌}
 use Prim.Native.Nat.{◌≤◌}
 use lib.ListN.{length}
-use native.Mathlib.Omega.{arith}
-use borrow.Author.Rules.{rules}
 use Rattle.frames.proofs.program.read_all.Given as goal
 
 abbrev pub invariant-loop-turns : goal.invariant-loop-turns

@@ -1,9 +1,6 @@
 -- `frames::program::read_block` meets its contract. The measure is how many bytes of the block are left.
-use Rattle.frames.proofs.Programs.{holds_moved, moved_at, moved_end, Between, between_start, between_on, between_end, reads-some}
-use Prim.Native.Nat.{◌-◌}
-use lib.ListN.{length}
+use Rattle.frames.proofs.Programs.{holds_moved, moved_at, moved_end, between_start, between_on, between_end, reads-some}
 use native.Mathlib.Omega.{arith}
-use borrow.Author.Rules.{rules}
 use Rattle.frames.proofs.program.read_block.Goals as goal
 
 pub read_on-now-requires : goal.read_on-now-requires

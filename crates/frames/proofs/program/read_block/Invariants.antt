@@ -1,9 +1,7 @@
 -- `frames::program::read_block` meets its contract. The measure is how many bytes of the block are left.
-use Rattle.frames.proofs.Programs.{holds_moved, moved_at, moved_end, Between, between_start, between_on, between_end, reads-some}
+use Rattle.frames.proofs.Programs.{Between}
 use Prim.Native.Nat.{◌-◌}
 use lib.ListN.{length}
-use native.Mathlib.Omega.{arith}
-use borrow.Author.Rules.{rules}
 use Rattle.frames.proofs.program.read_block.Given as goal
 
 abbrev pub invariant-loop-now : goal.invariant-loop-now

@@ -1,6 +1,5 @@
 -- `frames::program::run` meets its contract.
 use native.Mathlib.Omega.{arith}
-use borrow.Author.Rules.{rules}
 use Rattle.frames.proofs.program.run.Goals as goal
 
 pub finish-requires : goal.finish-requires

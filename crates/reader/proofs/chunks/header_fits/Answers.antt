@@ -1,6 +1,5 @@
 -- `reader::chunks::header_fits` meets its contract.
 use Rattle.reader.proofs.ChunkLoops.{fits_format, fits_tracks, fits_last}
-use borrow.Author.Rules.{rules}
 use Rattle.reader.proofs.chunks.header_fits.Goals as goal
 
 pub returns-then-word16-ne0 : goal.returns-then-word16-ne0

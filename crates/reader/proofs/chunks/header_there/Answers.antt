@@ -1,6 +1,5 @@
 -- `reader::chunks::header_there` meets its contract.
 use Rattle.reader.proofs.ChunkLoops.{there_short, there_other, there_small, there_last}
-use borrow.Author.Rules.{rules}
 use Rattle.reader.proofs.chunks.header_there.Goals as goal
 
 pub returns-then-s-lt8 : goal.returns-then-s-lt8

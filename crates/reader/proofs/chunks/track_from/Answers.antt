@@ -1,12 +1,8 @@
 -- `reader::chunks::track_from` meets its contract.
-use mathlib.Core.Path.{◌≡◌, refl, sym, ap, ◌∙◌}
+use mathlib.Core.Path.{refl, sym, ap, ◌∙◌}
 use native.Mathlib.Omega.{arith}
-use Prim.Native.Nat.{◌≤◌, ◌-◌}
-use lib.ListN.{length}
-use Rattle.midi.proofs.Loops.{track_after}
 use Rattle.reader.specs.Chunks.{chunk_place}
 use Rattle.reader.proofs.ChunkLoops.{chunk_short, chunk_cut, chunk_track, chunk_other}
-use borrow.Author.Rules.{rules}
 use Rattle.reader.proofs.chunks.track_from.Goals as goal
 
 pub chunks-init : goal.chunks-init

@@ -3,7 +3,6 @@ use borrow.Author.Tests.{not-true, not-false}
 use mathlib.Core.Path.{sym, ◌∙◌}
 use native.Mathlib.Omega.{arith}
 use Rattle.reader.proofs.ChunkLoops.{there_long, place_none, place_misfit, place_chunks}
-use borrow.Author.Rules.{rules}
 use Rattle.reader.proofs.chunks.track_in.Goals as goal
 
 pub returns-then-not-header_there : goal.returns-then-not-header_there

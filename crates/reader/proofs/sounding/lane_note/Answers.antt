@@ -1,6 +1,5 @@
 -- `reader::sounding::lane_note` meets its contract.
 use Rattle.midi.proofs.Tables.{key-at}
-use borrow.Author.Rules.{rules}
 use Rattle.reader.proofs.sounding.lane_note.Goals as goal
 
 pub returns : goal.returns

@@ -1,7 +1,6 @@
 -- `reader::sounding::put_lane` meets its contract.
 use mathlib.Core.Path.{sym}
 use Rattle.midi.proofs.Tables.{key-put}
-use borrow.Author.Rules.{rules}
 use Rattle.reader.proofs.sounding.put_lane.Goals as goal
 
 pub returns : goal.returns

@@ -1,7 +1,5 @@
 -- `reader::sounding::silent` meets its contract. The measure is how many keys are left.
-use Prim.Native.Nat.{◌-◌}
-use Rattle.reader.proofs.Silence.{Joined, joined-start, joined_more, joined-done}
-use borrow.Author.Rules.{rules}
+use Rattle.reader.proofs.Silence.{joined-start, joined_more, joined-done}
 use Rattle.reader.proofs.sounding.silent.Goals as goal
 
 pub loop-key-init : goal.loop-key-init

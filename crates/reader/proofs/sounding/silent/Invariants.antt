@@ -1,7 +1,6 @@
 -- `reader::sounding::silent` meets its contract. The measure is how many keys are left.
 use Prim.Native.Nat.{◌-◌}
-use Rattle.reader.proofs.Silence.{Joined, joined-start, joined_more, joined-done}
-use borrow.Author.Rules.{rules}
+use Rattle.reader.proofs.Silence.{Joined}
 use Rattle.reader.proofs.sounding.silent.Given as goal
 
 abbrev pub invariant-loop-key : goal.invariant-loop-key

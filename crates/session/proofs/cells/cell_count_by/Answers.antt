@@ -1,6 +1,5 @@
 -- `session::cells::cell_count_by` meets its contract.
 use native.Mathlib.Omega.{arith}
-use borrow.Author.Rules.{rules}
 use Rattle.session.proofs.Counts.{sides_between}
 use Rattle.session.proofs.cells.cell_count_by.Goals as goal
 

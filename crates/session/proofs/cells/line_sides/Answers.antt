@@ -6,7 +6,6 @@ use native.Mathlib.Nat.{div-le_self, div-mul-le_self}
 use native.Mathlib.Omega.{arith}
 use lib.Dec.{ltb}
 use mir.Val.{bool_byte}
-use borrow.Author.Rules.{rules}
 use Rattle.session.specs.Counting.{one_if, line_sides}
 use Rattle.session.proofs.Counts.{sides_few}
 use Rattle.session.proofs.cells.line_sides.Goals as goal

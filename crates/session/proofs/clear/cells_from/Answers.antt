@@ -1,11 +1,7 @@
 -- `session::clear::cells_from` meets its contract. The measure is how many cells are left.
 use native.Mathlib.Omega.{arith}
-use Rattle.laws.specs.Sweep.{skip}
-use Rattle.session.specs.Reading.{last_cells}
-use mathlib.Core.Path.{◌≡◌, refl, ◌∙◌}
-use Prim.Native.Nat.{◌≤◌}
+use mathlib.Core.Path.{refl, ◌∙◌}
 use Rattle.session.proofs.Lasts.{skip-past, skip_stop, skip_end}
-use borrow.Author.Rules.{rules}
 use Rattle.session.proofs.clear.cells_from.Goals as goal
 
 pub loop-at-init : goal.loop-at-init

@@ -1,11 +1,8 @@
 -- `session::clear::cells_from` meets its contract. The measure is how many cells are left.
-use native.Mathlib.Omega.{arith}
 use Rattle.laws.specs.Sweep.{skip}
 use Rattle.session.specs.Reading.{last_cells}
-use mathlib.Core.Path.{◌≡◌, refl, ◌∙◌}
+use mathlib.Core.Path.{◌≡◌}
 use Prim.Native.Nat.{◌≤◌}
-use Rattle.session.proofs.Lasts.{skip-past, skip_stop, skip_end}
-use borrow.Author.Rules.{rules}
 use Rattle.session.proofs.clear.cells_from.Given as goal
 
 abbrev pub invariant-loop-at : goal.invariant-loop-at

@@ -3,7 +3,6 @@ use Rattle.session.proofs.WaysOut.{beat_line, other_beat, opening-clear, closing
 use Rattle.laws.specs.Chain.{clear}
 use native.Mathlib.Omega.{arith}
 use borrow.Author.Tests.{lt-ltb, le-ltb, lt-leb, le-leb, eq-eqb, ne_eqb}
-use borrow.Author.Rules.{rules}
 use Rattle.session.proofs.clear.is_clear.Goals as goal
 
 pub returns-then-n-c : goal.returns-then-n-c

@@ -1,7 +1,6 @@
 -- `session::clear::is_clear_of_two` meets its contract.
 use native.Mathlib.Omega.{arith}
 use Rattle.session.proofs.Chains.{clear_of_none, clear_of_one, not_clear, clear_of_both}
-use borrow.Author.Rules.{rules}
 use Rattle.session.proofs.clear.is_clear_of_two.Goals as goal
 
 pub returns-then-left-eq0 : goal.returns-then-left-eq0

@@ -2,7 +2,6 @@
 use native.Mathlib.Omega.{arith}
 use Rattle.laws.specs.Sweep.{earlier}
 use Rattle.session.proofs.WaysOut.{one_number}
-use borrow.Author.Rules.{rules}
 use Rattle.session.proofs.clear.is_earlier.Goals as goal
 
 pub returns : goal.returns

@@ -2,7 +2,6 @@
 use Rattle.session.proofs.Entries.{granted, no_shelf, no_header}
 use Rattle.model.specs.Answers.{answer_of}
 use mathlib.Core.Path.{ap, sym, ◌∙◌}
-use borrow.Author.Rules.{rules}
 use Rattle.session.proofs.header.enter.Goals as goal
 
 pub returns-then-shelf-h : goal.returns-then-shelf-h

@@ -2,7 +2,6 @@
 use native.Mathlib.Omega.{arith}
 use Rattle.session.proofs.Entries.{short}
 use Rattle.model.specs.Session.{header_of}
-use borrow.Author.Rules.{rules}
 use Rattle.session.proofs.header.read.Goals as goal
 
 pub returns-then-s-lt-WORDS : goal.returns-then-s-lt-WORDS

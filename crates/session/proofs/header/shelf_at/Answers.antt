@@ -3,7 +3,6 @@ use Rattle.model.specs.Limits.{max_shelves}
 use Prim.Native.Nat.{◌≤◌}
 use native.Mathlib.Nat.{mul-le-mul}
 use native.Mathlib.Omega.{arith}
-use borrow.Author.Rules.{rules}
 use Rattle.session.proofs.header.shelf_at.Goals as goal
 
 pub overflow_mul-result : goal.overflow_mul-result

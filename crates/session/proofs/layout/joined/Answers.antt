@@ -1,7 +1,5 @@
 -- `session::layout::joined` meets its contract. The measure is how many words are left.
-use Prim.Native.Nat.{◌-◌}
-use Rattle.session.proofs.Layouts.{Joining, joining_start, joining_more, joining_done}
-use borrow.Author.Rules.{rules}
+use Rattle.session.proofs.Layouts.{joining_start, joining_more, joining_done}
 use Rattle.session.proofs.layout.joined.Goals as goal
 
 pub loop-at-init : goal.loop-at-init

@@ -1,7 +1,6 @@
 -- `session::layout::joined` meets its contract. The measure is how many words are left.
 use Prim.Native.Nat.{◌-◌}
-use Rattle.session.proofs.Layouts.{Joining, joining_start, joining_more, joining_done}
-use borrow.Author.Rules.{rules}
+use Rattle.session.proofs.Layouts.{Joining}
 use Rattle.session.proofs.layout.joined.Given as goal
 
 abbrev pub invariant-loop-at : goal.invariant-loop-at

@@ -1,6 +1,5 @@
 -- `session::layout::layout_ok` meets its contract.
 use Rattle.session.proofs.Layouts.{many_beats, too_long, by_zeros}
-use borrow.Author.Rules.{rules}
 use Rattle.session.proofs.layout.layout_ok.Goals as goal
 
 pub returns-then-part-gt-BEATS : goal.returns-then-part-gt-BEATS

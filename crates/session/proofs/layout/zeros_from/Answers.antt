@@ -1,12 +1,7 @@
 -- `session::layout::zeros_from` meets its contract, in blocks. The measure is how many words are left.
 use Rattle.session.proofs.Layouts.{block_past, block_not, rest_is}
-use Rattle.model.specs.Lists.{every}
 use native.Mathlib.Omega.{arith}
-use Prim.Native.Nat.{◌-◌, ◌≤◌}
-use mathlib.Core.Path.{◌≡◌, refl, sym, ◌∙◌}
-use lib.ListN.{length, drop}
-use lib.Dec.{eqb}
-use borrow.Author.Rules.{rules}
+use mathlib.Core.Path.{refl, sym, ◌∙◌}
 use Rattle.session.proofs.layout.zeros_from.Goals as goal
 
 pub loop-at-init : goal.loop-at-init

@@ -1,12 +1,9 @@
 -- `session::layout::zeros_from` meets its contract, in blocks. The measure is how many words are left.
-use Rattle.session.proofs.Layouts.{block_past, block_not, rest_is}
 use Rattle.model.specs.Lists.{every}
-use native.Mathlib.Omega.{arith}
 use Prim.Native.Nat.{◌-◌, ◌≤◌}
-use mathlib.Core.Path.{◌≡◌, refl, sym, ◌∙◌}
+use mathlib.Core.Path.{◌≡◌}
 use lib.ListN.{length, drop}
 use lib.Dec.{eqb}
-use borrow.Author.Rules.{rules}
 use Rattle.session.proofs.layout.zeros_from.Given as goal
 
 abbrev pub invariant-loop-at : goal.invariant-loop-at

@@ -1,12 +1,9 @@
 -- `session::list::check_list` meets its contract. The measure is how many words are left.
 use Rattle.laws.specs.Notes.{fair}
-use Rattle.session.proofs.Checks.{Checked, checked-start, checked-done, room_for_note, not_ranged, not_follows, checked-note, count_small, count_asks, not_whole, not_ok, counted}
-use lib.ListN.{length}
+use Rattle.session.proofs.Checks.{checked-start, checked-done, room_for_note, not_ranged, not_follows, checked-note, count_small, count_asks, not_whole, not_ok, counted}
 use borrow.Author.Tests.{not-true, not-false}
 use mathlib.Core.Path.{sym, ◌∙◌}
-use Prim.Native.Nat.{◌-◌}
 use native.Mathlib.Omega.{arith}
-use borrow.Author.Rules.{rules}
 use Rattle.session.proofs.list.check_list.Goals as goal
 
 pub returns-then-list-ne0 : goal.returns-then-list-ne0

@@ -2,7 +2,6 @@
 use Rattle.model.specs.Soundness.{partners}
 use native.Mathlib.Omega.{arith}
 use borrow.Author.Tests.{lt-ltb, le-ltb, lt-leb, le-leb, eq-eqb, ne_eqb}
-use borrow.Author.Rules.{rules}
 use Rattle.session.proofs.neighbours.are_partners.Goals as goal
 
 pub returns-then-c-d : goal.returns-then-c-d

@@ -1,6 +1,5 @@
 -- `session::neighbours::cell_ok` meets its contract.
 use Rattle.session.proofs.WaysOut.{range_no, memory_no, ticks_is}
-use borrow.Author.Rules.{rules}
 use Rattle.session.proofs.neighbours.cell_ok.Goals as goal
 
 pub returns-then-not-in_range : goal.returns-then-not-in_range

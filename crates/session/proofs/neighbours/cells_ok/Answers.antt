@@ -1,13 +1,7 @@
 -- `session::neighbours::cells_ok` meets its contract. The measure is how many cells are left.
-use Rattle.laws.specs.Chain.{cell_ok, cells_chain, cells_sound}
-use Rattle.model.specs.Lists.{every}
-use Prim.Native.Nat.{◌<◌}
-use mathlib.Core.Bool.{◌&&◌}
-use mathlib.Core.Path.{◌≡◌, sym, ◌∙◌}
-use Rattle.session.specs.Reading.{last_cells}
+use mathlib.Core.Path.{sym, ◌∙◌}
 use native.Mathlib.Omega.{arith}
 use Rattle.session.proofs.Chains.{none_ok, first_wrong, first-right, next_wrong, next_right, last_ok}
-use borrow.Author.Rules.{rules}
 use Rattle.session.proofs.neighbours.cells_ok.Goals as goal
 
 pub returns-then-count-eq0 : goal.returns-then-count-eq0

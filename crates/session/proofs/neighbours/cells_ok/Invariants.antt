@@ -3,11 +3,8 @@ use Rattle.laws.specs.Chain.{cell_ok, cells_chain, cells_sound}
 use Rattle.model.specs.Lists.{every}
 use Prim.Native.Nat.{◌<◌}
 use mathlib.Core.Bool.{◌&&◌}
-use mathlib.Core.Path.{◌≡◌, sym, ◌∙◌}
+use mathlib.Core.Path.{◌≡◌}
 use Rattle.session.specs.Reading.{last_cells}
-use native.Mathlib.Omega.{arith}
-use Rattle.session.proofs.Chains.{none_ok, first_wrong, first-right, next_wrong, next_right, last_ok}
-use borrow.Author.Rules.{rules}
 use Rattle.session.proofs.neighbours.cells_ok.Given as goal
 
 abbrev pub invariant-loop-left : goal.invariant-loop-left

@@ -1,6 +1,5 @@
 -- `session::neighbours::first_ok` meets its contract.
 use Rattle.session.proofs.WaysOut.{first_no, second_not}
-use borrow.Author.Rules.{rules}
 use Rattle.session.proofs.neighbours.first_ok.Goals as goal
 
 pub returns-then-not-cell_ok : goal.returns-then-not-cell_ok

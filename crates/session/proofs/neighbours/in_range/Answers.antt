@@ -2,7 +2,6 @@
 use Rattle.model.specs.Soundness.{cell_in_range}
 use native.Mathlib.Omega.{arith}
 use borrow.Author.Tests.{lt-ltb, le-ltb, lt-leb, le-leb, eq-eqb, ne_eqb}
-use borrow.Author.Rules.{rules}
 use Rattle.session.proofs.neighbours.in_range.Goals as goal
 
 pub returns-then-c-ge-LANES : goal.returns-then-c-ge-LANES

@@ -1,7 +1,6 @@
 -- `session::neighbours::memory_within` meets its contract.
 use mathlib.Core.Path.{refl}
 use Rattle.model.specs.Soundness.{memory_within}
-use borrow.Author.Rules.{rules}
 use Rattle.session.proofs.neighbours.memory_within.Goals as goal
 
 pub returns : goal.returns

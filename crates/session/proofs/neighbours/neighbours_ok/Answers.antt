@@ -1,7 +1,6 @@
 -- `session::neighbours::neighbours_ok` meets its contract.
 use native.Mathlib.Omega.{arith}
 use Rattle.session.proofs.WaysOut.{order_no, two_beats}
-use borrow.Author.Rules.{rules}
 use Rattle.session.proofs.neighbours.neighbours_ok.Goals as goal
 
 pub returns-then-c_at-d_at : goal.returns-then-c_at-d_at

@@ -1,6 +1,5 @@
 -- `session::neighbours::one_beat_ok` meets its contract.
 use Rattle.session.proofs.WaysOut.{side_no, first-fills, second_filled, by_gap}
-use borrow.Author.Rules.{rules}
 use Rattle.session.proofs.neighbours.one_beat_ok.Goals as goal
 
 pub returns-then-d-c : goal.returns-then-d-c

@@ -1,6 +1,5 @@
 -- `session::neighbours::two_beats_ok` meets its contract.
 use Rattle.session.proofs.WaysOut.{one-fills, by_filled}
-use borrow.Author.Rules.{rules}
 use Rattle.session.proofs.neighbours.two_beats_ok.Goals as goal
 
 pub returns-then-is_filling : goal.returns-then-is_filling

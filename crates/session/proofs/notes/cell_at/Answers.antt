@@ -1,7 +1,6 @@
 -- `session::notes::cell_at` meets its contract.
 use Rattle.session.specs.Reading.{cell_at}
 use mathlib.Core.Path.{refl}
-use borrow.Author.Rules.{rules}
 use Rattle.session.proofs.notes.cell_at.Goals as goal
 
 pub returns : goal.returns

@@ -1,7 +1,6 @@
 -- `session::notes::note_at` meets its contract.
 use Rattle.session.specs.Reading.{note_at}
 use mathlib.Core.Path.{refl}
-use borrow.Author.Rules.{rules}
 use Rattle.session.proofs.notes.note_at.Goals as goal
 
 pub returns : goal.returns

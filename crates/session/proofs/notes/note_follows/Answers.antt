@@ -2,7 +2,6 @@
 use native.Mathlib.Omega.{arith}
 use Rattle.model.specs.Soundness.{follows}
 use Rattle.session.proofs.WaysOut.{one-number-within}
-use borrow.Author.Rules.{rules}
 use Rattle.session.proofs.notes.note_follows.Goals as goal
 
 pub returns : goal.returns

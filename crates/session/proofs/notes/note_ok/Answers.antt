@@ -3,7 +3,6 @@ use Rattle.model.specs.Soundness.{note_ok}
 use native.Mathlib.Nat.{mul-le-mul}
 use native.Mathlib.Omega.{arith}
 use borrow.Author.Tests.{lt-ltb, le-ltb, lt-leb, le-leb, eq-eqb, ne_eqb}
-use borrow.Author.Rules.{rules}
 use Rattle.session.proofs.notes.note_ok.Goals as goal
 
 pub returns-then-n-ge-LANES : goal.returns-then-n-ge-LANES

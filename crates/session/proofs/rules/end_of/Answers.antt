@@ -4,7 +4,6 @@ use Rattle.session.proofs.WaysOut.{product_fits, end_close}
 use Rattle.model.specs.Binding.{end_of}
 use native.Mathlib.Omega.{arith}
 use borrow.Author.Tests.{lt-ltb, le-ltb, lt-leb, le-leb, eq-eqb, ne_eqb}
-use borrow.Author.Rules.{rules}
 use Rattle.session.proofs.rules.end_of.Goals as goal
 
 pub overflow_mul-result : goal.overflow_mul-result

@@ -1,6 +1,5 @@
 -- `session::rules::is_bound` meets its contract.
 use Rattle.session.proofs.WaysOut.{both_end, both_go, one_left, one_right, neither}
-use borrow.Author.Rules.{rules}
 use Rattle.session.proofs.rules.is_bound.Goals as goal
 
 pub returns-then-c-eq0 : goal.returns-then-c-eq0

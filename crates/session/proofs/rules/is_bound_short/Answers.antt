@@ -1,7 +1,6 @@
 -- `session::rules::is_bound_short` meets its contract.
 use native.Mathlib.Omega.{arith}
 use borrow.Author.Tests.{lt-ltb, le-ltb, lt-leb, le-leb, eq-eqb, ne_eqb}
-use borrow.Author.Rules.{rules}
 use Rattle.session.proofs.rules.is_bound_short.Goals as goal
 
 pub returns-then-c-d : goal.returns-then-c-d

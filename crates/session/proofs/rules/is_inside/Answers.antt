@@ -1,7 +1,6 @@
 -- `session::rules::is_inside` meets its contract.
 use native.Mathlib.Omega.{arith}
 use Rattle.session.proofs.WaysOut.{beat_line, inside_end, inside_not}
-use borrow.Author.Rules.{rules}
 use Rattle.session.proofs.rules.is_inside.Goals as goal
 
 pub overflow_mul-line : goal.overflow_mul-line

@@ -3,7 +3,6 @@ use Rattle.session.proofs.WaysOut.{by_beat}
 use Rattle.model.specs.Binding.{meet}
 use native.Mathlib.Omega.{arith}
 use borrow.Author.Tests.{lt-ltb, le-ltb, lt-leb, le-leb, eq-eqb, ne_eqb}
-use borrow.Author.Rules.{rules}
 use Rattle.session.proofs.rules.meets.Goals as goal
 
 pub returns-then-c-d : goal.returns-then-c-d

@@ -4,7 +4,6 @@ use Rattle.session.proofs.WaysOut.{product_fits, start_close, start_zero}
 use Rattle.model.specs.Binding.{start_of}
 use native.Mathlib.Omega.{arith}
 use borrow.Author.Tests.{lt-ltb, le-ltb, lt-leb, le-leb, eq-eqb, ne_eqb}
-use borrow.Author.Rules.{rules}
 use Rattle.session.proofs.rules.start_of.Goals as goal
 
 pub overflow_mul-result : goal.overflow_mul-result

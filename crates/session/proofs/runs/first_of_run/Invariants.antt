@@ -1,11 +1,8 @@
 -- `session::runs::first_of_run` meets its contract. The measure is how many cells are left.
-use native.Mathlib.Omega.{arith}
 use Rattle.session.specs.Running.{from_shown}
 use Rattle.session.specs.Reading.{last_cells}
-use mathlib.Core.Path.{◌≡◌, refl, ◌∙◌}
+use mathlib.Core.Path.{◌≡◌}
 use Prim.Native.Nat.{◌≤◌}
-use Rattle.session.proofs.Lasts.{shown_past, shown_stop, shown_end}
-use borrow.Author.Rules.{rules}
 use Rattle.session.proofs.runs.first_of_run.Given as goal
 
 abbrev pub invariant-loop-at : goal.invariant-loop-at

@@ -1,6 +1,5 @@
 -- `session::runs::is_linked` meets its contract.
 use Rattle.session.proofs.Chains.{linked-opening, linked-alone, linked-apart, linked-bound}
-use borrow.Author.Rules.{rules}
 use Rattle.session.proofs.runs.is_linked.Goals as goal
 
 pub returns-then-c-eq0 : goal.returns-then-c-eq0

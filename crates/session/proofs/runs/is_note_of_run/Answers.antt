@@ -3,7 +3,6 @@ use Rattle.session.proofs.WaysOut.{other_start, other_end, by_velocity}
 use Rattle.session.specs.Running.{same_note, note_of_run}
 use native.Mathlib.Omega.{arith}
 use borrow.Author.Tests.{lt-ltb, le-ltb, lt-leb, le-leb, eq-eqb, ne_eqb}
-use borrow.Author.Rules.{rules}
 use Rattle.session.proofs.runs.is_note_of_run.Goals as goal
 
 pub returns-then-n-c : goal.returns-then-n-c

@@ -1,6 +1,5 @@
 -- `session::runs::is_shown` meets its contract.
 use Rattle.session.proofs.Chains.{shown_alone, shown_linked}
-use borrow.Author.Rules.{rules}
 use Rattle.session.proofs.runs.is_shown.Goals as goal
 
 pub returns-then-stands_alone : goal.returns-then-stands_alone

@@ -1,11 +1,7 @@
 -- `session::runs::last_of_run` meets its contract. The measure is how many cells are left.
 use native.Mathlib.Omega.{arith}
-use Rattle.session.specs.Running.{from_last}
-use Rattle.session.specs.Reading.{last_cells}
-use mathlib.Core.Path.{◌≡◌, refl, ◌∙◌}
-use Prim.Native.Nat.{◌≤◌}
+use mathlib.Core.Path.{refl, ◌∙◌}
 use Rattle.session.proofs.Lasts.{link_past, link_stop, link_end}
-use borrow.Author.Rules.{rules}
 use Rattle.session.proofs.runs.last_of_run.Goals as goal
 
 pub loop-at-init : goal.loop-at-init

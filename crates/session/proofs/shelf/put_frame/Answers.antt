@@ -1,6 +1,5 @@
 -- `session::shelf::put_frame` meets its contract.
 use Rattle.session.proofs.Frames.{frame_done}
-use borrow.Author.Rules.{rules}
 use Rattle.session.proofs.shelf.put_frame.Goals as goal
 
 pub returns : goal.returns

@@ -1,6 +1,5 @@
 -- `session::sound::in_order` meets its contract.
 use Rattle.session.proofs.WaysOut.{first_no, second_is}
-use borrow.Author.Rules.{rules}
 use Rattle.session.proofs.sound.in_order.Goals as goal
 
 pub returns-then-not-note_ok : goal.returns-then-not-note_ok

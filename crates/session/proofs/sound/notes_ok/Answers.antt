@@ -1,6 +1,6 @@
 -- `session::sound::notes_ok` meets its contract. The measure is how many notes are left.
 use native.Mathlib.Omega.{arith}
-use Rattle.session.proofs.Standings.{Asking, start-within, asking_all, asked-all, not_in_order, not_right, asking_next}
+use Rattle.session.proofs.Standings.{start-within, asking_all, asked-all, not_in_order, not_right, asking_next}
 use borrow.Author.Rules.{rules}
 use Rattle.session.proofs.sound.notes_ok.Goals as goal
 

@@ -1,7 +1,5 @@
 -- `session::sound::notes_ok` meets its contract. The measure is how many notes are left.
-use native.Mathlib.Omega.{arith}
-use Rattle.session.proofs.Standings.{Asking, start-within, asking_all, asked-all, not_in_order, not_right, asking_next}
-use borrow.Author.Rules.{rules}
+use Rattle.session.proofs.Standings.{Asking}
 use Rattle.session.proofs.sound.notes_ok.Given as goal
 
 abbrev pub invariant-loop-left : goal.invariant-loop-left

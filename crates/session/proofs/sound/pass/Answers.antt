@@ -1,6 +1,5 @@
 -- `session::sound::pass` meets its contract.
 use mathlib.Core.Path.{sym, ◌∙◌}
-use borrow.Author.Rules.{rules}
 use Rattle.session.proofs.sound.pass.Goals as goal
 
 pub pass_inner-requires : goal.pass_inner-requires

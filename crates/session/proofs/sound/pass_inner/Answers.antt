@@ -1,6 +1,5 @@
 -- `session::sound::pass_inner` meets its contract.
 use Rattle.session.proofs.Standings.{passes_inner}
-use borrow.Author.Rules.{rules}
 use Rattle.session.proofs.sound.pass_inner.Goals as goal
 
 pub returns : goal.returns

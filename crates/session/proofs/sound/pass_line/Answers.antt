@@ -1,7 +1,6 @@
 -- `session::sound::pass_line` meets its contract.
 use native.Mathlib.Omega.{arith}
 use Rattle.session.proofs.Standings.{passes_none}
-use borrow.Author.Rules.{rules}
 use Rattle.session.proofs.sound.pass_line.Goals as goal
 
 pub returns-then-last-eq0 : goal.returns-then-last-eq0

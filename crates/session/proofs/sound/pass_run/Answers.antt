@@ -1,6 +1,5 @@
 -- `session::sound::pass_run` meets its contract.
 use Rattle.session.proofs.Standings.{passes_beside, passes_behind}
-use borrow.Author.Rules.{rules}
 use Rattle.session.proofs.sound.pass_run.Goals as goal
 
 pub returns-then-behind-beside : goal.returns-then-behind-beside

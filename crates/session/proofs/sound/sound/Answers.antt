@@ -3,7 +3,6 @@ use mathlib.Core.Path.{sym, ◌∙◌}
 use native.Mathlib.Omega.{arith}
 use borrow.Author.Tests.{not-false}
 use Rattle.session.proofs.Shelves.{laid, not_laid, cells_wrong, by_notes}
-use borrow.Author.Rules.{rules}
 use Rattle.session.proofs.sound.sound.Goals as goal
 
 pub returns-then-not-layout_ok : goal.returns-then-not-layout_ok

@@ -2,7 +2,6 @@
 use mathlib.Core.Path.{sym, ◌∙◌}
 use mathlib.Core.List.{[], ◌∷◌}
 use Rattle.words.specs.Splice.{splice-append}
-use borrow.Author.Rules.{rules}
 use Rattle.track.proofs.bytes.put_four.Goals as goal
 
 pub returns : goal.returns

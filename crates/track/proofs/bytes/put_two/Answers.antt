@@ -3,7 +3,6 @@ use lib.ListN.{length-set}
 use native.Mathlib.Numerals.{unary_clauses}
 use native.Mathlib.Omega.{arith}
 use Rattle.words.specs.Splice.{splice}
-use borrow.Author.Rules.{rules}
 use Rattle.track.proofs.bytes.put_two.Goals as goal
 
 pub bounds-out-at-2 : goal.bounds-out-at-2

@@ -2,7 +2,6 @@
 use Prim.Native.Nat.{◌+◌}
 use mathlib.Core.Path.{refl}
 use native.Mathlib.Omega.{arith}
-use borrow.Author.Rules.{rules}
 use Rattle.track.proofs.bytes.word16.Goals as goal
 
 pub overflow_cast-result : goal.overflow_cast-result

@@ -4,7 +4,6 @@ use native.Mathlib.Omega.{arith}
 use Rattle.track.specs.Reading.{quantity_of}
 use Rattle.track.proofs.ReadGroups.{quantity_small}
 use Rattle.track.proofs.Parts.{event-none, event-behind}
-use borrow.Author.Rules.{rules}
 use Rattle.track.proofs.cursor.any_event.Goals as goal
 
 pub overflow_add-tick : goal.overflow_add-tick

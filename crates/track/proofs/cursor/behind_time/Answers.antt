@@ -1,7 +1,6 @@
 -- `track::cursor::behind_time` meets its contract.
 use mathlib.Core.Path.{◌∙◌}
 use Rattle.track.proofs.Parts.{behind_cut, behind-own, behind_bare, behind_running}
-use borrow.Author.Rules.{rules}
 use Rattle.track.proofs.cursor.behind_time.Goals as goal
 
 pub returns-then-s-q : goal.returns-then-s-q

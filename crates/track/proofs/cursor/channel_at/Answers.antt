@@ -1,7 +1,6 @@
 -- `track::cursor::channel_at` meets its contract.
 use mathlib.Core.Path.{◌∙◌}
 use Rattle.track.proofs.Parts.{data_cut, data_high, data_low, channel_none, channel_one, channel_two}
-use borrow.Author.Rules.{rules}
 use Rattle.track.proofs.cursor.channel_at.Goals as goal
 
 pub returns-then-s-q : goal.returns-then-s-q

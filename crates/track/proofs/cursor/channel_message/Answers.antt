@@ -1,6 +1,5 @@
 -- `track::cursor::channel_message` meets its contract.
 use Rattle.track.proofs.Parts.{note_not}
-use borrow.Author.Rules.{rules}
 use Rattle.track.proofs.cursor.channel_message.Goals as goal
 
 pub returns-then-status-ne4 : goal.returns-then-status-ne4

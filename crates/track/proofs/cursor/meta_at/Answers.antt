@@ -4,7 +4,6 @@ use native.Mathlib.Omega.{arith}
 use Rattle.track.specs.Reading.{quantity_of}
 use Rattle.track.proofs.ReadGroups.{quantity_behind}
 use Rattle.track.proofs.Parts.{data_cut, data_high, data_low, meta_none, meta_bare, meta_over, meta_end}
-use borrow.Author.Rules.{rules}
 use Rattle.track.proofs.cursor.meta_at.Goals as goal
 
 pub returns-then-s-q : goal.returns-then-s-q

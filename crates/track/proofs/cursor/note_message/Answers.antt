@@ -1,6 +1,5 @@
 -- `track::cursor::note_message` meets its contract.
 use Rattle.track.proofs.Parts.{note_plays}
-use borrow.Author.Rules.{rules}
 use Rattle.track.proofs.cursor.note_message.Goals as goal
 
 pub returns : goal.returns

@@ -1,7 +1,6 @@
 -- `track::cursor::own_status` meets its contract.
 use mathlib.Core.Path.{◌∙◌}
 use Rattle.track.proofs.Parts.{own_channel, own_meta, own_f0, own_f7, own-none}
-use borrow.Author.Rules.{rules}
 use Rattle.track.proofs.cursor.own_status.Goals as goal
 
 pub returns-then-status-lt240 : goal.returns-then-status-lt240

@@ -1,7 +1,6 @@
 -- `track::cursor::read_over` meets its contract.
 use native.Mathlib.Omega.{arith}
 use Rattle.track.proofs.Parts.{over_cut, over_on}
-use borrow.Author.Rules.{rules}
 use Rattle.track.proofs.cursor.read_over.Goals as goal
 
 pub returns-then-s-p : goal.returns-then-s-p

@@ -1,6 +1,5 @@
 -- `track::cursor::second_data` meets its contract.
 use Rattle.track.proofs.Parts.{data_cut, data_high, data_low, second_none, second_there}
-use borrow.Author.Rules.{rules}
 use Rattle.track.proofs.cursor.second_data.Goals as goal
 
 pub returns-then-s-q : goal.returns-then-s-q

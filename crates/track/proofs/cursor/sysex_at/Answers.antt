@@ -3,7 +3,6 @@ use mathlib.Core.Path.{sym, ap, ◌∙◌}
 use Rattle.track.specs.Reading.{quantity_of}
 use Rattle.track.proofs.ReadGroups.{quantity_behind}
 use Rattle.track.proofs.Parts.{sysex_none, sysex_over}
-use borrow.Author.Rules.{rules}
 use Rattle.track.proofs.cursor.sysex_at.Goals as goal
 
 pub read_over-requires : goal.read_over-requires

@@ -4,7 +4,6 @@ use Rattle.midi.specs.Numbers.{quantity_bytes}
 use Rattle.words.specs.Splice.{splice-append}
 use mathlib.Core.Path.{sym, ◌∙◌}
 use native.Mathlib.Omega.{arith}
-use borrow.Author.Rules.{rules}
 use Rattle.track.proofs.putting.put_event.Goals as goal
 
 pub returns : goal.returns

@@ -3,7 +3,6 @@ use Rattle.track.proofs.Messages.{message_is}
 use Rattle.midi.specs.Writing.{message_bytes}
 use Rattle.words.specs.Splice.{splice}
 use mathlib.Core.Path.{ap, ◌∙◌}
-use borrow.Author.Rules.{rules}
 use Rattle.track.proofs.putting.put_message.Goals as goal
 
 pub returns : goal.returns

@@ -4,7 +4,6 @@ use Rattle.track.proofs.Groups.{one_group, two_groups, three_groups, four_groups
 use lib.ListN.{length}
 use mathlib.Core.Path.{sym, ap, ◌∙◌}
 use native.Mathlib.Omega.{arith}
-use borrow.Author.Rules.{rules}
 use Rattle.track.proofs.putting.put_quantity.Goals as goal
 
 pub returns-then-groups-eq1 : goal.returns-then-groups-eq1

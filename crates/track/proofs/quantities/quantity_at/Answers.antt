@@ -1,10 +1,8 @@
 -- `track::quantities::quantity_at` meets its contract.
-use mathlib.Core.Path.{◌≡◌, refl, sym, ◌∙◌}
-use Prim.Native.Nat.{◌≤◌, ◌<◌}
+use mathlib.Core.Path.{refl, sym, ◌∙◌}
+use Prim.Native.Nat.{◌<◌}
 use native.Mathlib.Omega.{arith}
-use Rattle.midi.specs.Numbers.{quantity_from}
-use Rattle.track.proofs.ReadGroups.{top, top_start, top_low, top_next, group_cut, group_last, group_more, group_none}
-use borrow.Author.Rules.{rules}
+use Rattle.track.proofs.ReadGroups.{top_start, top_low, top_next, group_cut, group_last, group_more, group_none}
 use Rattle.track.proofs.quantities.quantity_at.Goals as goal
 
 pub loop-left-init : goal.loop-left-init

@@ -4,7 +4,6 @@ use Prim.Native.Nat.{ℕ}
 use native.Mathlib.Omega.{arith}
 use lib.Dec.{leb}
 use Rattle.writer.proofs.Tables.{table_window, table_last, table_length, table_fits, table_count}
-use borrow.Author.Rules.{rules}
 use Rattle.writer.proofs.few.fits.Goals as goal
 
 pub returns-then-track_most-room : goal.returns-then-track_most-room

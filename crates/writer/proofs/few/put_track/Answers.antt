@@ -2,7 +2,6 @@
 use mathlib.Core.Path.{refl, ◌∙◌}
 use native.Mathlib.Omega.{arith}
 use Rattle.writer.proofs.Tables.{table_window, table_last, table_length, table_count, table_end, table_put}
-use borrow.Author.Rules.{rules}
 use Rattle.writer.proofs.few.put_track.Goals as goal
 
 pub put_window-reached-requires : goal.put_window-reached-requires

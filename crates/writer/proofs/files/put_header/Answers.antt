@@ -1,6 +1,5 @@
 -- `writer::files::put_header` meets its contract: seven numbers one after the other.
 use Rattle.writer.proofs.Written.{header-put}
-use borrow.Author.Rules.{rules}
 use Rattle.writer.proofs.files.put_header.Goals as goal
 
 pub returns : goal.returns

@@ -1,9 +1,6 @@
 -- `writer::files::put_lent` meets its contract.
-use mathlib.Core.Path.{◌≡◌, ap}
 use native.Mathlib.Omega.{arith}
-use lib.ListN.{length}
 use Rattle.writer.proofs.Shelves.{ordered, ends_within, end_short}
-use borrow.Author.Rules.{rules}
 use Rattle.writer.proofs.files.put_lent.Goals as goal
 
 pub overflow_mul-beats : goal.overflow_mul-beats

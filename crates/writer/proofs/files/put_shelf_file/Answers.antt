@@ -1,7 +1,6 @@
 -- `writer::files::put_shelf_file` meets its contract.
 use Rattle.writer.proofs.Parts.{counts_inside, notes_few, file_asks, file_is}
 use native.Mathlib.Omega.{arith}
-use borrow.Author.Rules.{rules}
 use Rattle.writer.proofs.files.put_shelf_file.Goals as goal
 
 pub bounds-part-1 : goal.bounds-part-1

@@ -2,7 +2,6 @@
 use native.Mathlib.Omega.{arith}
 use Rattle.writer.proofs.Shelves.{ordered, end_short, track_asks}
 use Rattle.writer.proofs.Written.{bound-fits, left-short, counted_fits}
-use borrow.Author.Rules.{rules}
 use Rattle.writer.proofs.many.fits.Goals as goal
 
 pub overflow_mul-end : goal.overflow_mul-end

@@ -4,7 +4,6 @@ use native.Mathlib.Omega.{arith}
 use borrow.Author.Tests.{not-true, not-false}
 use Rattle.writer.proofs.Shelves.{ordered, end_short, track_asks}
 use Rattle.writer.proofs.Written.{left-short, left-room, header-room, file-put, file-none}
-use borrow.Author.Rules.{rules}
 use Rattle.writer.proofs.many.put_many.Goals as goal
 
 pub returns-then-not-fits : goal.returns-then-not-fits

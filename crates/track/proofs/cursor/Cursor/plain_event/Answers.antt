@@ -1,7 +1,5 @@
 -- `track::cursor::Cursor::plain_event` meets its contract.
-use native.Mathlib.Omega.{arith}
 use Rattle.track.proofs.Parts.{event_plain}
-use borrow.Author.Rules.{rules}
 use Rattle.track.proofs.cursor.Cursor.plain_event.Goals as goal
 
 pub returns : goal.returns

@@ -1,7 +1,5 @@
 -- `track::cursor::Cursor::running_event` meets its contract.
-use native.Mathlib.Omega.{arith}
 use Rattle.track.proofs.Parts.{event_running}
-use borrow.Author.Rules.{rules}
 use Rattle.track.proofs.cursor.Cursor.running_event.Goals as goal
 
 pub returns : goal.returns

@@ -6,7 +6,6 @@ use native.Mathlib.Omega.{arith}
 use lib.ListN.{get_or}
 use borrow.Author.Tests.{ltb-true}
 use Rattle.track.proofs.Parts.{or_most}
-use borrow.Author.Rules.{rules}
 use Rattle.track.proofs.cursor.Cursor.runs.Goals as goal
 
 pub returns-then-s-at : goal.returns-then-s-at

@@ -1,7 +1,6 @@
 -- `track::cursor::Event::again` meets its contract.
 use mathlib.Core.Path.{sym, ap₂, ◌∙◌}
 use Rattle.track.specs.declared.cursor.Event.TheVariants.{Legal}
-use borrow.Author.Rules.{rules}
 use Rattle.track.proofs.cursor.Event.again.Goals as goal
 
 pub returns-in-Legal : goal.returns-in-Legal

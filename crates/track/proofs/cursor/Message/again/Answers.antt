@@ -1,6 +1,5 @@
 -- `track::cursor::Message::again` meets its contract.
 use mathlib.Core.Path.{sym}
-use borrow.Author.Rules.{rules}
 use Rattle.track.proofs.cursor.Message.again.Goals as goal
 
 pub returns-in-Plays : goal.returns-in-Plays
