@@ -9,15 +9,16 @@ CARGO = cargo --offline
 PREFIX ?= /usr/local
 VERSION = 0.1
 BUILD = build
-SOURCES = $(shell find crates crates.txt -type f)
-ARCHIVES = target/staticlib/libbeat.a target/staticlib/libfile.a
+SOURCES = $(shell find crates crates.txt -type f -not -path '*/out/*')
+ARCHIVE = crates/zikorewi/out/libzikorewi.a
+CUTTER = crates/cutter/out/cutter
 
 CFLAGS ?= -O2
 CSTRICT = -std=c11 -Wall -Wextra -Werror
 SHARED = $(addprefix host/, files.c keys.c memory.c picture.c pieces.c roll.c session.c)
 EDITOR = $(addprefix host/, takecut.c options.c words.c progress.c takes.c commands.c recordings.c edits.c show.c messages.c midifile.c)
 
-.PHONY: all library archive programs run cases pictures test prove bench install install-files clean
+.PHONY: all library archive cutter programs run cases pictures test prove bench install install-files clean
 
 all: library
 	@$(MAKE) --no-print-directory programs
@@ -25,15 +26,19 @@ all: library
 library: prove
 	@$(MAKE) --no-print-directory archive
 
-# An archive is proved and built again only where a crate has changed since.
-target/staticlib/lib%.a: $(SOURCES)
-	rt staticlib $*
+# The archive is proved and built again only where a crate has changed since.
+$(ARCHIVE): $(SOURCES)
+	cd crates/zikorewi && rt lib
 
-# One library of the two archives.
-archive: $(ARCHIVES)
+archive: $(ARCHIVE)
 	@mkdir -p $(BUILD)
-	rm -f $(BUILD)/libzikorewi.a
-	@{ echo 'create $(BUILD)/libzikorewi.a'; for a in $(ARCHIVES); do echo "addlib $$a"; done; echo 'save'; echo 'end'; } | ar -M
+	cp $(ARCHIVE) $(BUILD)/libzikorewi.a
+
+# The same for the program; it is run on no input, since that is how rt builds it.
+$(CUTTER): $(SOURCES)
+	cd crates/cutter && rt run </dev/null
+
+cutter: $(CUTTER)
 
 # The editor and the demonstration, linked with that library.
 programs: archive
@@ -53,7 +58,7 @@ cases: prove
 	@$(CARGO) run --quiet --release --manifest-path reference/Cargo.toml --bin cases
 
 prove:
-	rt check
+	rt all check
 
 test:
 	@bash tests/gate.sh
@@ -61,7 +66,7 @@ test:
 bench: library
 	$(CARGO) run --quiet --profile fast --manifest-path compare/Cargo.toml --bin bench docs
 
-install: all
+install: all cutter
 	@$(MAKE) --no-print-directory install-files
 
 # Copies what is built: also for packages, with DESTDIR.
@@ -70,11 +75,11 @@ install-files:
 	install -d $(DESTDIR)$(PREFIX)/share/man/man1 $(DESTDIR)$(PREFIX)/share/man/man3
 	install -m 644 include/zikorewi.h $(DESTDIR)$(PREFIX)/include/
 	install -m 644 $(BUILD)/libzikorewi.a $(DESTDIR)$(PREFIX)/lib/
-	install -m 755 $(BUILD)/takecut target/bin/cutter $(DESTDIR)$(PREFIX)/bin/
+	install -m 755 $(BUILD)/takecut $(CUTTER) $(DESTDIR)$(PREFIX)/bin/
 	install -m 644 man/takecut.1 man/cutter.1 $(DESTDIR)$(PREFIX)/share/man/man1/
 	install -m 644 man/zikorewi.3 $(DESTDIR)$(PREFIX)/share/man/man3/
 	printf 'prefix=%s\nincludedir=$${prefix}/include\nlibdir=$${prefix}/lib\n\nName: zikorewi\nDescription: cuts and joins takes of MIDI notes on beat lines\nVersion: %s\nCflags: -I$${includedir}\nLibs: -L$${libdir} -lzikorewi\n' \
 		'$(PREFIX)' '$(VERSION)' > $(DESTDIR)$(PREFIX)/lib/pkgconfig/zikorewi.pc
 
 clean:
-	rm -rf target build reference/target compare/target
+	rm -rf build crates/*/out reference/target compare/target

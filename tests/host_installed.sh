@@ -1,5 +1,5 @@
 # What make install copies: part of host.sh.
-if [ ! -x "$root/target/bin/cutter" ]; then echo 'target/bin/cutter is not built'; fi
+if [ ! -x "$root/crates/cutter/out/cutter" ]; then echo 'crates/cutter/out/cutter is not built'; fi
 make -C "$root" --no-print-directory install-files BUILD=build/plain PREFIX="$work/prefix" >make.log 2>&1
 status=$?
 check "install-files ($(tail -n 1 make.log))" [ "$status" -eq 0 ]

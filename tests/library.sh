@@ -4,5 +4,5 @@ set -eu
 cd "$(dirname "${BASH_SOURCE[0]}")/.."
 mkdir -p build
 cc -std=c11 -Wall -Wextra -Werror -fsanitize=address,undefined -Iinclude tests/library.c \
-    target/staticlib/libbeat.a target/staticlib/libfile.a -o build/library-test
+    build/libzikorewi.a -o build/library-test
 build/library-test

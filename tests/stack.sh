@@ -4,5 +4,5 @@ set -eu
 cd "$(dirname "${BASH_SOURCE[0]}")/.."
 mkdir -p build
 cc -std=c11 -D_GNU_SOURCE -Wall -Wextra -Werror -O1 -Iinclude tests/stack.c \
-    target/staticlib/libbeat.a target/staticlib/libfile.a -o build/stack-test
+    build/libzikorewi.a -o build/stack-test
 build/stack-test

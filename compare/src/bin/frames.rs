@@ -9,8 +9,8 @@ use std::io::{self, Read, Write};
 use std::process::{Child, Command, ExitCode, Stdio};
 use std::time::{SystemTime, UNIX_EPOCH};
 
-/// The program, as `rt check` builds it.
-const CUTTER: &str = concat!(env!("CARGO_MANIFEST_DIR"), "/../target/bin/cutter");
+/// The program, as `make cutter` builds it.
+const CUTTER: &str = concat!(env!("CARGO_MANIFEST_DIR"), "/../crates/cutter/out/cutter");
 
 /// Seeds that are tried in every run.
 const SEEDS: [u64; 4] = [1, 2, 3, 4];
