@@ -2,7 +2,7 @@
 #   make          proves the crates and builds the C library, build/libzikorewi.a, and the editor, build/takecut
 #   make run      proves the crates, then shows on one screen what takes are for
 #   make cases    the paper's table of cases, as the second implementation computes it
-#   make test     the gate: everything from nothing; its last line is 'N passed, 0 failed'
+#   make test     the gate; its last line is 'N passed, 0 failed'
 #   make bench    times the calls against the second implementation; writes docs/BENCHMARK.md
 #   make install  header, library, pkg-config file, programs and manual pages below PREFIX
 CARGO = cargo --offline

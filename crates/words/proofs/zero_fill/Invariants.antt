@@ -1,5 +1,4 @@
 -- `words::zero_fill` meets its contract. What is left to write before each turn is the zeros from `i` up to `to`; the measure is their count.
---
 use Prim.Native.Nat.{◌-◌, ◌≤◌}
 use lib.ListN.{replicate}
 use Rattle.words.specs.Writes.{Writes}

@@ -1,4 +1,6 @@
 -- `cuts::halves::put_across` meets its contract.
+use mathlib.Core.Path.{ap}
+use mathlib.Core.Bool.{not}
 use native.Mathlib.Omega.{arith}
 use Rattle.cuts.proofs.Parts.{across_none, across_hidden, across_room, across_shown}
 use Rattle.cuts.proofs.halves.put_across.Goals as goal
@@ -7,10 +9,10 @@ pub returns-then-at-eq0 : goal.returns-then-at-eq0
 returns-then-at-eq0 c = across_none _ _ _ _ _ _ _ c.line_cells-at.ensures.0 _ c.if-at-eq0.true
 
 pub returns-then-not-stands_alone : goal.returns-then-not-stands_alone
-returns-then-not-stands_alone c = across_hidden _ _ _ _ _ _ _ c.line_cells-at.ensures.0 c.if-at-eq0.false (omega arith) c.cell_at-c.ensures c.stands_alone.ensures _ c.if-not-stands_alone.true-raw
+returns-then-not-stands_alone c = across_hidden _ _ _ _ _ _ _ c.line_cells-at.ensures.0 c.if-at-eq0.false (omega arith) c.cell_at-c.ensures c.stands_alone.ensures _ (ap not c.if-not-stands_alone.true)
 
 pub put_four-requires : goal.put_four-requires
-put_four-requires c = across_room _ _ _ _ _ _ _ c.line_cells-at.ensures.0 c.if-at-eq0.false (omega arith) c.cell_at-c.ensures c.stands_alone.ensures c.if-not-stands_alone.false-raw c.crossed-part.ensures _ c.requires.0
+put_four-requires c = across_room _ _ _ _ _ _ _ c.line_cells-at.ensures.0 c.if-at-eq0.false (omega arith) c.cell_at-c.ensures c.stands_alone.ensures (ap not c.if-not-stands_alone.false) c.crossed-part.ensures _ c.requires.0
 
 pub returns : goal.returns
-returns c = across_shown _ _ _ _ _ _ _ c.line_cells-at.ensures.0 c.if-at-eq0.false (omega arith) c.cell_at-c.ensures c.stands_alone.ensures c.if-not-stands_alone.false-raw c.crossed-part.ensures _ c.put_four.ensures
+returns c = across_shown _ _ _ _ _ _ _ c.line_cells-at.ensures.0 c.if-at-eq0.false (omega arith) c.cell_at-c.ensures c.stands_alone.ensures (ap not c.if-not-stands_alone.false) c.crossed-part.ensures _ c.put_four.ensures

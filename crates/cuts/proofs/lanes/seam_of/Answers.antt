@@ -1,4 +1,6 @@
 -- `cuts::lanes::seam_of` meets its contract.
+use mathlib.Core.Path.{ap}
+use mathlib.Core.Bool.{not}
 use native.Mathlib.Omega.{arith}
 use Rattle.cuts.proofs.LaneSeam.{seam_no_first, seam_no_second, seam_other, last-inside, seam_unbound, over_asks, seam_bound}
 use Rattle.cuts.proofs.lanes.seam_of.Goals as goal
@@ -34,10 +36,10 @@ pub cell_at-c-requires : goal.cell_at-c-requires
 cell_at-c-requires c = (last-inside c.requires c.if-second-eq0.false c.cell_at-d.ensures c.if-cells-first.false).1
 
 pub returns-then-not-bound_over : goal.returns-then-not-bound_over
-returns-then-not-bound_over c = seam_unbound c.requires c.if-second-eq0.false c.cell_at-d.ensures c.if-cells-first.false c.cell_at-c.ensures c.if-d-lane.false c.bound_over.ensures c.if-not-bound_over.true-raw c.no_seam-then-not-bound_over.ensures
+returns-then-not-bound_over c = seam_unbound c.requires c.if-second-eq0.false c.cell_at-d.ensures c.if-cells-first.false c.cell_at-c.ensures c.if-d-lane.false c.bound_over.ensures (ap not c.if-not-bound_over.true) c.no_seam-then-not-bound_over.ensures
 
 pub seam_over-requires : goal.seam_over-requires
 seam_over-requires c = over_asks c.requires c.if-second-eq0.false c.cell_at-d.ensures c.if-cells-first.false c.cell_at-c.ensures c.if-d-lane.false
 
 pub returns : goal.returns
-returns c = seam_bound c.requires c.if-second-eq0.false c.cell_at-d.ensures c.if-cells-first.false c.cell_at-c.ensures c.if-d-lane.false c.bound_over.ensures c.if-not-bound_over.false-raw c.seam_over.ensures
+returns c = seam_bound c.requires c.if-second-eq0.false c.cell_at-d.ensures c.if-cells-first.false c.cell_at-c.ensures c.if-d-lane.false c.bound_over.ensures (ap not c.if-not-bound_over.false) c.seam_over.ensures

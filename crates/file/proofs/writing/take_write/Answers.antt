@@ -47,7 +47,7 @@ sound-requires-in-Granted c = let e = (granted_means _ _ _ (sym (ap entry_of c.i
 pub returns-then-not-sound : goal.returns-then-not-sound
 returns-then-not-sound c =
     let e = (granted_means _ _ _ (sym (ap entry_of c.in-Granted.is) ∙ c.enter-entry.ensures)) in
-    let all = write_unsound _ _ _ e c.args.output.now (sound_is _ _ _ (entered_range e) (entered_below e) c.shelf_at-at.ensures c.sound-in-Granted.ensures) c.if-not-sound.true-raw in
+    let all = write_unsound _ _ _ e c.args.output.now (sound_is _ _ _ (entered_range e) (entered_below e) c.shelf_at-at.ensures c.sound-in-Granted.ensures) (ap not c.if-not-sound.true) in
     record { number = all.0; count = all.1.0; output = all.1.1 }
 
 pub offset_bounds-session-at-in-Granted-2 : goal.offset_bounds-session-at-in-Granted-2
@@ -57,20 +57,20 @@ pub slice_bounds-put_shelf_file-end : goal.slice_bounds-put_shelf_file-end
 slice_bounds-put_shelf_file-end c = let e = (granted_means _ _ _ (sym (ap entry_of c.in-Granted.is) ∙ c.enter-entry.ensures)) in omega (arith, inside_session (entered_range e) (entered_below e) c.shelf_at-at.ensures)
 
 pub put_shelf_file-size-requires : goal.put_shelf_file-size-requires
-put_shelf_file-size-requires c = let e = (granted_means _ _ _ (sym (ap entry_of c.in-Granted.is) ∙ c.enter-entry.ensures)) in part_asks _ _ _ (entered_range e) (entered_below e) c.shelf_at-at.ensures c.sound-in-Granted.ensures c.if-not-sound.false-raw
+put_shelf_file-size-requires c = let e = (granted_means _ _ _ (sym (ap entry_of c.in-Granted.is) ∙ c.enter-entry.ensures)) in part_asks _ _ _ (entered_range e) (entered_below e) c.shelf_at-at.ensures c.sound-in-Granted.ensures (ap not c.if-not-sound.false)
 
 pub returns-then-size-eq0 : goal.returns-then-size-eq0
 returns-then-size-eq0 c =
     let e = (granted_means _ _ _ (sym (ap entry_of c.in-Granted.is) ∙ c.enter-entry.ensures)) in
     let p = part_wrote _ _ _ (entered_range e) (entered_below e) c.shelf_at-at.ensures c.args.output.now c.put_shelf_file-size.ensures in
-    let all = write_full _ _ _ e c.args.output.now (sound_is _ _ _ (entered_range e) (entered_below e) c.shelf_at-at.ensures c.sound-in-Granted.ensures) c.if-not-sound.false-raw (part_sound _ _ _ (entered_range e) (entered_below e) c.shelf_at-at.ensures c.sound-in-Granted.ensures c.if-not-sound.false-raw) p.0 p.1 c.if-size-eq0.true in
+    let all = write_full _ _ _ e c.args.output.now (sound_is _ _ _ (entered_range e) (entered_below e) c.shelf_at-at.ensures c.sound-in-Granted.ensures) (ap not c.if-not-sound.false) (part_sound _ _ _ (entered_range e) (entered_below e) c.shelf_at-at.ensures c.sound-in-Granted.ensures (ap not c.if-not-sound.false)) p.0 p.1 c.if-size-eq0.true in
     record { number = all.0; count = all.1.0; output = all.1.1 }
 
 pub returns-else-size-eq0 : goal.returns-else-size-eq0
 returns-else-size-eq0 c =
     let e = (granted_means _ _ _ (sym (ap entry_of c.in-Granted.is) ∙ c.enter-entry.ensures)) in
     let p = part_wrote _ _ _ (entered_range e) (entered_below e) c.shelf_at-at.ensures c.args.output.now c.put_shelf_file-size.ensures in
-    let all = write_done _ _ _ e c.args.output.now (sound_is _ _ _ (entered_range e) (entered_below e) c.shelf_at-at.ensures c.sound-in-Granted.ensures) c.if-not-sound.false-raw (part_sound _ _ _ (entered_range e) (entered_below e) c.shelf_at-at.ensures c.sound-in-Granted.ensures c.if-not-sound.false-raw) p.0 p.1 c.if-size-eq0.false in
+    let all = write_done _ _ _ e c.args.output.now (sound_is _ _ _ (entered_range e) (entered_below e) c.shelf_at-at.ensures c.sound-in-Granted.ensures) (ap not c.if-not-sound.false) (part_sound _ _ _ (entered_range e) (entered_below e) c.shelf_at-at.ensures c.sound-in-Granted.ensures (ap not c.if-not-sound.false)) p.0 p.1 c.if-size-eq0.false in
     record { number = all.0; count = all.1.0; output = all.1.1 }
 
 pub returns-in-Refused : goal.returns-in-Refused

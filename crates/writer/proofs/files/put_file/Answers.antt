@@ -15,6 +15,7 @@ overflow_mul-beats-2 c = omega (arith, end_short c.requires)
 pub returns-then-length-gt0 : goal.returns-then-length-gt0
 returns-then-length-gt0 c = c.put_dense-length.ensures.done (omega (arith, c.if-length-gt0.true))
 
+-- Where nothing is written, the output is as it was: what `it` says of `out`.
 pub shape_of-out : goal.shape_of-out
 shape_of-out c = search (rules, (let it : c.if-beats-delta-le1023.out ≡ c.args.out.now = elim c.if-beats-delta-le1023.branch [ then-beats-delta-le1023+else-length-gt0 w ↦ w.out-is ∙ w.put_dense-length.ensures.kept (omega (arith, w.if-length-gt0.false)) | else-beats-delta-le1023 w ↦ w.out-is ] in it))
 

@@ -12,5 +12,6 @@ plan-requires c = let p = c.requires in (ordered p.0, c.if-w-gt0.true, c.bucket_
 pub put_wide-requires : goal.put_wide-requires
 put_wide-requires c = let p = c.requires in let t = c.if-plan.true in let n = c.plan.ensures in (record { file = p.0; fair = n.fair t; places = n.places t; fits = c.bucket_ticks-w.ensures.fits c.if-w-gt0.true }, record { starts = p.1.starts; limits = omega (arith, p.1.limits); next = p.1.next; here = p.1.here; there = p.1.there; table = p.1.table })
 
+-- Where no buckets are used, `ends` is as long as it was lent: it is as it was, or the plan that failed has kept its length.
 pub put_many-requires : goal.put_many-requires
 put_many-requires c = let p = c.requires in (p.0, record { starts = p.1.starts; limits = omega (arith, p.1.limits, c.if-w-gt0.auto.ends); next = p.1.next; here = p.1.here; there = p.1.there; table = p.1.table })
