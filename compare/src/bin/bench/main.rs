@@ -26,6 +26,18 @@ fn machine() -> String {
     format!("{name}, {cores} cores, {}", std::env::consts::ARCH)
 }
 
+/// The toolchain that built the proved side, as `rt version` says it.
+fn kit() -> String {
+    let said = std::process::Command::new("rt").arg("version").output();
+    let text = said.map_or_else(|_| Vec::new(), |said| said.stdout);
+    let line = String::from_utf8_lossy(&text).lines().next().unwrap_or_default().to_string();
+    if line.is_empty() {
+        "an unnamed toolchain".into()
+    } else {
+        line
+    }
+}
+
 /// Times all calls on one recording; both sides must leave the same words.
 fn measure(size: Size, rows: &mut Vec<Row>) {
     let recording = Recording::new(size);
@@ -53,7 +65,10 @@ fn sizes(wide: bool) -> &'static [u32] {
 
 fn write(folder: &Path, rows: &[Row]) -> std::io::Result<()> {
     std::fs::create_dir_all(folder.join("pictures"))?;
-    std::fs::write(folder.join("BENCHMARK.md"), report::document(rows, &machine()))?;
+    std::fs::write(
+        folder.join("BENCHMARK.md"),
+        report::document(rows, &format!("{}, with {}", machine(), kit())),
+    )?;
     std::fs::write(folder.join("pictures/benchmark.svg"), picture::picture(rows))
 }
 
