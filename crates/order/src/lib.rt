@@ -6,6 +6,8 @@ ghost use Rattle.std.specs.Prelude.{◌≡◌, ℕ, ◌+◌, ◌*◌, ◌≤◌,
 ghost use Rattle.order.specs.Events.{lane_at, event, velocity_of, events, Ordered};
 ghost use Rattle.order.specs.Runs.{Run, Split};
 
+pub mod notes;
+pub mod tables;
 pub mod taking;
 pub mod windows;
 

@@ -1,2 +1,3 @@
 -- What the proofs of several functions share.
 pub mod Copies
+pub mod Summing

@@ -3,3 +3,4 @@ pub mod Apart
 pub mod Splice
 pub mod Parts
 pub mod Writes
+pub mod Sums

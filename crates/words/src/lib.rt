@@ -4,6 +4,8 @@
 ghost use Rattle.std.specs.Prelude.{◌≡◌, [], ◌∷◌, ◌+◌, ◌-◌, ◌≤◌, length, take, drop, replicate};
 ghost use Rattle.words.specs.Splice.{splice};
 
+pub mod sums;
+
 // Writes zeros to the places from `from` up to, not including, `to`.
 #[tactic(auto, using(crate::proofs::Copies::part_filled))]
 pub fn zero_fill(s: &mut [u32], from: usize, to: usize)
