@@ -8,8 +8,6 @@ ghost use Rattle.file.specs.Loading.{answer_number, answer_after, ShelfAsks, Rec
 
 use beat::cells;
 use model::Header;
-use reader::chunks::Found;
-use reader::counting::Counted;
 use reader::{chunks, counting, placing};
 use session::header::Entry;
 use session::{header, shelf};
@@ -58,12 +56,8 @@ fn load_track(s: &mut [u32], h: Header, shelf: u32, track: &[u8]) -> u32
 {
     let mut counts = [0u32; 2048];
     match counting::count_track(track, h.delta, &mut counts) {
-        Counted::Recording {
-            beats,
-            notes,
-            cells,
-        } => {
-            if !fits(h.words, notes, cells) {
+        Ok(counted) => {
+            if !fits(h.words, counted.notes, counted.cells) {
                 return 8;
             }
             put_recording(
@@ -72,13 +66,13 @@ fn load_track(s: &mut [u32], h: Header, shelf: u32, track: &[u8]) -> u32
                 shelf,
                 track,
                 &mut counts,
-                beats,
-                notes as u32,
-                cells as u32,
+                counted.beats,
+                counted.notes as u32,
+                counted.cells as u32,
             );
             0
         }
-        Counted::Refused(q) => q,
+        Err(question) => u32::from(question),
     }
 }
 
@@ -92,8 +86,8 @@ pub fn take_load(session: &mut [u32], shelf: u32, file: &[u8]) -> u32
         Entry::Granted(h) => {
             let found = chunks::track_in(h.delta, file);
             match found {
-                Found::Track { at, end } => load_track(session, h, shelf, &file[at..end]),
-                Found::Refused(q) => q,
+                Ok(track) => load_track(session, h, shelf, &file[track.at..track.end]),
+                Err(q) => u32::from(q),
             }
         }
         Entry::Refused(q) => q,

@@ -346,27 +346,24 @@ pub note_not : (status key velocity : ℕ) → (status / 32 ≡ 4 → ⊥) → p
 note_not status key velocity d = message_passed status key velocity (λ e. d (omega arith)) (λ e. d (omega arith))
 
 -- what a message that plays says, and that its channel and key are in range where its lane is
-module _ (channel key velocity : ℕ) where
-  abbrev plays : Option Play
-  plays = Some (record { channel = channel; key = key; velocity = velocity })
-
-  pub plays_low : InRange (message_of plays) → (channel < 16) × (key < 128)
-  plays_low h = by_key (ltb key 128) refl (by_velocity (eqb velocity 0) h)
+module _ (p : Play) where
+  pub plays_low : InRange (message_of (Some p)) → (p.channel < 16) × (p.key < 128)
+  plays_low h = by_key (ltb p.key 128) refl (by_velocity (eqb p.velocity 0) h)
     where
-      by_velocity : (b : Bool) → InRange (cond b (ends (lane_of channel key)) (starts (lane_of channel key) velocity)) → lane_of channel key < 2048
+      by_velocity : (b : Bool) → InRange (cond b (ends (lane_of p.channel p.key)) (starts (lane_of p.channel p.key) p.velocity)) → lane_of p.channel p.key < 2048
       by_velocity true h = h
       by_velocity false h = h.0
 
-      by_key : (b : Bool) → ltb key 128 ≡ b → cond b (128 * channel + key) 2048 < 2048 → (channel < 16) × (key < 128)
-      by_key true e h = (omega arith, ltb-true key 128 e)
+      by_key : (b : Bool) → ltb p.key 128 ≡ b → cond b (128 * p.channel + p.key) 2048 < 2048 → (p.channel < 16) × (p.key < 128)
+      by_key true e h = (omega arith, ltb-true p.key 128 e)
       by_key false e h = absurd (omega arith)
 
-  module _ (low : key < 128) where
-    pub plays_end : velocity ≡ 0 → message_of plays ≡ ends (128 * channel + key)
-    plays_end z = rw (eq-eqb velocity 0 z, lt-ltb key 128 low)
+  module _ (low : p.key < 128) where
+    pub plays_end : p.velocity ≡ 0 → message_of (Some p) ≡ ends (128 * p.channel + p.key)
+    plays_end z = rw (eq-eqb p.velocity 0 z, lt-ltb p.key 128 low)
 
-    pub plays_start : (velocity ≡ 0 → ⊥) → message_of plays ≡ starts (128 * channel + key) velocity
-    plays_start d = rw (ne_eqb velocity 0 d, lt-ltb key 128 low)
+    pub plays_start : (p.velocity ≡ 0 → ⊥) → message_of (Some p) ≡ starts (128 * p.channel + p.key) p.velocity
+    plays_start d = rw (ne_eqb p.velocity 0 d, lt-ltb p.key 128 low)
 
 -- the bits of three numbers together are at least each
 pub or_most : (a b c n : ℕ) → bit_or (bit_or a b) c < n → (a < n) × (b < n) × (c < n)

@@ -1,8 +1,7 @@
 -- `file::loading::load_track` meets its contract.
 use mathlib.Core.Bool.{not}
 use Rattle.file.proofs.Loads.{times, room_asks, track_refused, track_full, track-room, track_asks, track-done}
-use Rattle.reader.specs.Counting.{counted_of}
-use mathlib.Core.Path.{refl, sym, ap, ◌∙◌}
+use mathlib.Core.Path.{refl, ap, ◌∙◌}
 use native.Mathlib.Omega.{arith}
 use Rattle.file.proofs.loading.load_track.Goals as goal
 
@@ -14,24 +13,24 @@ fits-requires c = room_asks c.requires
 
 pub returns-then-not-fits : goal.returns-then-not-fits
 returns-then-not-fits c =
-    let all = track_full c.requires _ (sym (ap counted_of c.in-Recording.is) ∙ c.count_track.ensures.answer) c.fits.ensures (ap not c.if-not-fits.true) in
+    let all = track_full c.requires _ c.in-Ok.ensures.answer c.fits.ensures (ap not c.if-not-fits.true) in
     record { number = all.0; words = all.1 }
 
-pub overflow_cast-notes : goal.overflow_cast-notes
-overflow_cast-notes c = omega (arith, track-room c.requires _ (sym (ap counted_of c.in-Recording.is) ∙ c.count_track.ensures.answer) c.fits.ensures (ap not c.if-not-fits.false), room_asks c.requires)
+pub overflow_cast-counted : goal.overflow_cast-counted
+overflow_cast-counted c = omega (arith, track-room c.requires _ c.in-Ok.ensures.answer c.fits.ensures (ap not c.if-not-fits.false), room_asks c.requires)
 
-pub overflow_cast-cells : goal.overflow_cast-cells
-overflow_cast-cells c = omega (arith, track-room c.requires _ (sym (ap counted_of c.in-Recording.is) ∙ c.count_track.ensures.answer) c.fits.ensures (ap not c.if-not-fits.false), room_asks c.requires)
+pub overflow_cast-counted-in-Ok : goal.overflow_cast-counted-in-Ok
+overflow_cast-counted-in-Ok c = omega (arith, track-room c.requires _ c.in-Ok.ensures.answer c.fits.ensures (ap not c.if-not-fits.false), room_asks c.requires)
 
 pub put_recording-requires : goal.put_recording-requires
-put_recording-requires c = track_asks c.requires _ (sym (ap counted_of c.in-Recording.is) ∙ c.count_track.ensures.answer) c.fits.ensures (ap not c.if-not-fits.false) c.count_track.ensures.counts
+put_recording-requires c = track_asks c.requires _ c.in-Ok.ensures.answer c.fits.ensures (ap not c.if-not-fits.false) c.count_track.ensures.counts
 
 pub returns-else-not-fits : goal.returns-else-not-fits
 returns-else-not-fits c =
-    let all = track-done c.requires _ (sym (ap counted_of c.in-Recording.is) ∙ c.count_track.ensures.answer) c.fits.ensures (ap not c.if-not-fits.false) c.put_recording.ensures in
+    let all = track-done c.requires _ c.in-Ok.ensures.answer c.fits.ensures (ap not c.if-not-fits.false) c.put_recording.ensures in
     record { number = all.0; words = all.1 }
 
-pub returns-in-Refused : goal.returns-in-Refused
-returns-in-Refused c =
-    let all = track_refused c.requires _ _ (sym (ap counted_of c.in-Refused.is) ∙ c.count_track.ensures.answer) in
-    record { number = all.0; words = all.1 }
+pub returns-in-Err : goal.returns-in-Err
+returns-in-Err c =
+    let all = track_refused c.requires _ _ c.in-Err.ensures.answer in
+    record { number = c.from.ensures ∙ all.0; words = all.1 }
