@@ -200,6 +200,33 @@ pub fn any_event(s: &[u8], at: usize, tick: u32, running: u8) -> Option<Event>
     behind_time(s, tick + time.number, running, time.end)
 }
 
+impl Play {
+    // The same message, copied field by field.
+    fn again(self) -> Play
+        ensures { result ≡ self }
+    {
+        Play {
+            channel: self.channel,
+            key: self.key,
+            velocity: self.velocity,
+        }
+    }
+}
+
+impl Event {
+    // The same event, copied field by field. A copy of all at once, as a derive's, keeps each event of a loop in memory where one comes from a
+    // call: then the notes that are read without a call are stored and loaded again too (tried: nine stores and a load more for each note).
+    fn again(self) -> Event
+        ensures { result ≡ self }
+    {
+        match self {
+            Event::Next(next, Some(play)) => Event::Next(next.again(), Some(play.again())),
+            Event::Next(next, None) => Event::Next(next.again(), None),
+            Event::Finished(tick) => Event::Finished(tick),
+        }
+    }
+}
+
 impl Cursor {
     // The first byte of a track, at tick 0, with no running status.
     pub fn start() -> Cursor
@@ -209,6 +236,17 @@ impl Cursor {
             at: 0,
             tick: 0,
             running: 0,
+        }
+    }
+
+    // The same place, copied field by field.
+    fn again(self) -> Cursor
+        ensures { result ≡ self }
+    {
+        Cursor {
+            at: self.at,
+            tick: self.tick,
+            running: self.running,
         }
     }
 
@@ -225,7 +263,8 @@ impl Cursor {
         if self.runs(s) {
             return Some(self.running_event(s));
         }
-        any_event(s, self.at, self.tick, self.running)
+        let e = any_event(s, self.at, self.tick, self.running)?;
+        Some(e.again())
     }
 
     // Does a note of four bytes stand here: a time of one group, 8n or 9n, key and velocity? Most events of a file with a status for each are such.
