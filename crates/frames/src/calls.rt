@@ -104,7 +104,7 @@ pub fn load(session: &mut [u32], bytes: &[u8]) -> u32
     if bytes.len() < 4 {
         return MALFORMED;
     }
-    loading::take_load(session, word_at(bytes, 0), &bytes[4..])
+    answer_number(loading::take_load(session, word_at(bytes, 0), &bytes[4..]))
 }
 
 // What open and write return besides a number: the length of the session in words, or of the file in bytes.
