@@ -71,7 +71,7 @@ pub fn put_byte(out: &mut [u8], at: usize, byte: u8)
     requires { at + 2 ≤ length out.old }
     ensures { out.new ≡ splice out.old at (byte_digits byte) }
 {
-    track::bytes::put_two(out, at, digit_of(byte / 16), digit_of(byte % 16));
+    words::put(out, at, [digit_of(byte / 16), digit_of(byte % 16)]);
 }
 
 // Writes the digits of all bytes from place `at` on. Returns the place behind them.

@@ -5,4 +5,4 @@ use Rattle.frames.proofs.digits.put_byte.Goals as goal
 
 pub returns : goal.returns
 unfolding byte_digits
-returns c = c.put_two.ensures ∙ rw (c.digit_of.ensures, c.digit_of-2.ensures)
+returns c = c.put.ensures ∙ rw (c.digit_of.ensures, c.digit_of-2.ensures)
