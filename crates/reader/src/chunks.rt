@@ -46,7 +46,7 @@ fn header_fits(delta: u32, s: &[u8]) -> bool
     bytes::word16(s, 12) == delta
 }
 
-// Question 11: the first MTrk from a position on, reached through complete chunks.
+// Question 11: the first MTrk from a position on, reached through complete chunks. Each step is as long as its chunk says, so no `for` goes here.
 fn track_from(s: &[u8], from: usize) -> Result<Found, Question>
     requires { from ≤ length s.now }
     ensures { place_of result ≡ chunk_place (track_after s.now from) }

@@ -1,12 +1,9 @@
 -- `reader::chunks::track_from` meets its contract.
-use mathlib.Core.Path.{refl, sym, ap, ◌∙◌}
+use mathlib.Core.Path.{sym, ap, ◌∙◌}
 use native.Mathlib.Omega.{arith}
 use Rattle.reader.specs.Chunks.{chunk_place}
 use Rattle.reader.proofs.ChunkLoops.{chunk_short, chunk_cut, chunk_track, chunk_other}
 use Rattle.reader.proofs.chunks.track_from.Goals as goal
-
-pub chunks-init : goal.chunks-init
-chunks-init c = (c.requires, refl)
 
 pub returns-then-word32-eq-MTRK : goal.returns-then-word32-eq-MTRK
 returns-then-word32-eq-MTRK c = sym (ap chunk_place (c.chunks.invariant.1 ∙ chunk_track _ _ c.chunks.invariant.0 c.if-s-at-lt8.false _ c.word32-size.ensures c.if-s-start.false _ c.word32.ensures c.if-word32-eq-MTRK.true))
