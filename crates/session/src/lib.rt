@@ -13,4 +13,5 @@ pub mod notes;
 pub mod rules;
 pub mod runs;
 pub mod shelf;
+pub mod slices;
 pub mod sound;

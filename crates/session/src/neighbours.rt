@@ -4,8 +4,9 @@ ghost use Rattle.model.specs.Lists.{every};
 ghost use Rattle.model.specs.Binding.{fills};
 ghost use Rattle.model.specs.Soundness.{cell_in_range, has_ticks, memory_within, filled, partners};
 ghost use Rattle.laws.specs.Chain.{cell_ok, neighbours, cells_sound};
-ghost use Rattle.session.specs.Reading.{last_cells};
+ghost use Rattle.session.specs.Sliced.{cells_of};
 
+use crate::slices::Cells;
 use crate::{notes, rules};
 use model::{Cell, Header};
 
@@ -144,26 +145,24 @@ fn next_ok(delta: u32, beats: u32, c: Cell, d: Cell) -> bool
     neighbours_ok(delta, c, d)
 }
 
-// What is asked of the cells, `count` of them up to place `end`.
-pub fn cells_ok(delta: u32, beats: u32, part: &[u32], end: usize, count: usize) -> bool
-    requires { (6 * count ≤ end) × (end ≤ length part.now) }
-    ensures { result ≡ (every (cell_ok delta beats) (last_cells part.now end count) && cells_sound delta (last_cells part.now end count)) }
+// What is asked of the cells.
+pub fn cells_ok(delta: u32, beats: u32, cells: Cells) -> bool
+    ensures { result ≡ (every (cell_ok delta beats) (cells_of cells.entry) && cells_sound delta (cells_of cells.entry)) }
 {
-    if count == 0 {
+    let Some((first, behind)) = cells.split_first() else {
         return true;
-    }
-    let mut last = notes::cell_at(part, end - 6 * count);
-    if !first_ok(delta, beats, last) {
+    };
+    if !first_ok(delta, beats, first) {
         return false;
     }
-    let mut left = count - 1;
-    while 0 < left {
-        let c = notes::cell_at(part, end - 6 * left);
+    let mut last = first;
+    let mut left = behind;
+    while let Some((c, behind)) = left.split_first() {
         if !next_ok(delta, beats, last, c) {
             return false;
         }
         last = c;
-        left -= 1;
+        left = behind;
     }
     !rules::is_filling(delta, last)
 }

@@ -1,12 +1,12 @@
--- `session::runs::first_of_run` meets its contract. The measure is how many cells are left.
-use Rattle.session.specs.Running.{from_shown}
-use Rattle.session.specs.Reading.{last_cells}
+-- `session::runs::first_of_run` meets its contract. The measure is how many words are left.
 use mathlib.Core.Path.{◌≡◌}
-use Prim.Native.Nat.{◌≤◌}
+use lib.ListN.{length}
+use Rattle.session.specs.Sliced.{cells_of}
+use Rattle.session.specs.Running.{from_shown}
 use Rattle.session.proofs.runs.first_of_run.Given as goal
 
-abbrev pub invariant-loop-at : goal.invariant-loop-at
-invariant-loop-at l = (from_shown l.h (last_cells l.part l.end l.at) ≡ from_shown l.h (last_cells l.part l.end l.left)) × (l.at ≤ l.left)
+abbrev pub invariant-loop-c : goal.invariant-loop-c
+invariant-loop-c l = from_shown l.h (cells_of l.left) ≡ from_shown l.h (cells_of l.cells)
 
-abbrev pub decreases-loop-at : goal.decreases-loop-at
-decreases-loop-at l = l.at
+abbrev pub decreases-loop-c : goal.decreases-loop-c
+decreases-loop-c l = length (cells_of l.left)

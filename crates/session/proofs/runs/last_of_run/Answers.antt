@@ -1,19 +1,14 @@
 -- `session::runs::last_of_run` meets its contract. The measure is how many cells are left.
-use mathlib.Core.Path.{ap}
-use mathlib.Core.Bool.{not}
-use native.Mathlib.Omega.{arith}
-use mathlib.Core.Path.{refl, ◌∙◌}
-use Rattle.session.proofs.Lasts.{link_past, link_stop, link_end}
+use mathlib.Core.Path.{sym, ◌∙◌}
+use Rattle.session.specs.Running.{from_last}
+use Rattle.session.proofs.Tails.{past, stop, stop_none, link_yes, link_no, link_none}
 use Rattle.session.proofs.runs.last_of_run.Goals as goal
 
-pub loop-at-init : goal.loop-at-init
-loop-at-init c = (refl, omega arith)
-
 pub returns-then-not-is_linked : goal.returns-then-not-is_linked
-returns-then-not-is_linked c = (link_stop _ _ _ c.loop-at-test.true (omega arith) _ c.is_linked.ensures (ap not c.if-not-is_linked.true) ∙ c.loop-at.invariant.0, c.loop-at.invariant.1)
+returns-then-not-is_linked c = stop (from_last c.args.h) c.in-Some.ensures (link_no _ _ _ (sym c.is_linked.ensures ∙ c.if-not-is_linked.true)) ∙ c.loop-c.invariant
 
-pub loop-at-preserved : goal.loop-at-preserved
-loop-at-preserved c = (link_past _ _ _ c.loop-at-test.true (omega arith) _ c.is_linked.ensures (ap not c.if-not-is_linked.false) ∙ c.loop-at.invariant.0, omega arith)
+pub loop-c-preserved : goal.loop-c-preserved
+loop-c-preserved c = past (from_last c.args.h) c.in-Some.ensures (link_yes _ _ _ (sym c.is_linked.ensures ∙ c.if-not-is_linked.false)) ∙ c.loop-c.invariant
 
 pub returns : goal.returns
-returns c = (link_end _ _ _ _ c.loop-at-test.false ∙ c.loop-at.invariant.0, omega arith)
+returns c = stop_none (from_last c.args.h) c.in_default.ensures (link_none _) ∙ c.loop-c.invariant

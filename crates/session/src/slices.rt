@@ -1,0 +1,76 @@
+// Notes and cells in a slice of words.
+ghost use Rattle.std.specs.Prelude.{◌≡◌, ◌%◌, length};
+
+use model::{Cell, Note};
+
+// Words that are whole notes.
+#[derive(Clone, Copy)]
+pub struct Notes<'a> {
+    pub words: &'a [u32],
+    pub ghost whole: { length words.now % 4 ≡ 0 },
+}
+
+// Words that are whole cells.
+#[derive(Clone, Copy)]
+pub struct Cells<'a> {
+    pub words: &'a [u32],
+    pub ghost whole: { length words.now % 6 ≡ 0 },
+}
+
+impl<'a> Notes<'a> {
+    ghost use Rattle.session.specs.Sliced.{notes_of, first_note};
+
+    // The first note and those behind it; none if there is none.
+    pub fn split_first(self) -> Option<(Note, Notes<'a>)>
+        ensures { notes_of self.entry ≡ first_note result }
+    {
+        match self.words {
+            [lane, start, end, velocity, words @ ..] => {
+                let n = Note {
+                    lane: *lane,
+                    start: *start,
+                    end: *end,
+                    velocity: *velocity,
+                };
+                Some((n, Notes { words }))
+            }
+            _ => None,
+        }
+    }
+}
+
+impl<'a> Cells<'a> {
+    ghost use Rattle.session.specs.Passing.{fewer};
+    ghost use Rattle.session.specs.Sliced.{cells_of, first_cell};
+
+    // The first cell and those behind it; none if there is none.
+    pub fn split_first(self) -> Option<(Cell, Cells<'a>)>
+        ensures { cells_of self.entry ≡ first_cell result }
+    {
+        match self.words {
+            [lane, beat, side, before, after, velocity, words @ ..] => {
+                let c = Cell {
+                    lane: *lane,
+                    beat: *beat,
+                    side: *side,
+                    before: *before,
+                    after: *after,
+                    velocity: *velocity,
+                };
+                Some((c, Cells { words }))
+            }
+            _ => None,
+        }
+    }
+
+    // These cells, if they are fewer than the others; else the others.
+    pub fn or_fewer(self, others: Cells<'a>) -> Cells<'a>
+        ensures { cells_of result ≡ fewer (cells_of self.entry) (cells_of others.entry) }
+    {
+        if self.words.len() < others.words.len() {
+            self
+        } else {
+            others
+        }
+    }
+}
