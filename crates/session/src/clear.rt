@@ -48,17 +48,15 @@ fn is_clear(delta: u32, beat: u32, n: Note, c: Cell) -> bool
     requires { (0 < delta) × (beat ≡ first_beat delta n) }
     ensures { result ≡ clear delta n c }
 {
-    if n.lane != c.lane {
-        return true;
-    }
-    if beat != c.beat {
+    if n.lane != c.lane || beat != c.beat {
         return true;
     }
     let line = (beat as u64) * (delta as u64);
     if c.side == 0 {
-        return line + (c.after as u64) <= (n.start as u64);
+        line + (c.after as u64) <= (n.start as u64)
+    } else {
+        (n.end as u64) + (c.before as u64) <= line + (delta as u64)
     }
-    (n.end as u64) + (c.before as u64) <= line + (delta as u64)
 }
 
 // Is the note clear of the first two cells? A beat of a lane has no more than two.

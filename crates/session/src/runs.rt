@@ -59,19 +59,14 @@ pub fn last_of_run(h: Header, cells: Cells) -> Cells
 }
 
 // Is n the note of a run from the piece of cell c to the piece of cell d?
+#[tactic(auto, unfolding(crate::specs::Running::same_note, crate::specs::Running::note_of_run))]
 pub fn is_note_of_run(delta: u32, n: Note, c: Cell, d: Cell) -> bool
     ensures { result ≡ same_note n (note_of_run delta c d) }
 {
-    if n.lane != c.lane {
-        return false;
-    }
-    if (n.start as u64) != rules::start_of(delta, c) {
-        return false;
-    }
-    if (n.end as u64) != rules::end_of(delta, d) {
-        return false;
-    }
-    n.velocity == c.velocity
+    n.lane == c.lane
+        && (n.start as u64) == rules::start_of(delta, c)
+        && (n.end as u64) == rules::end_of(delta, d)
+        && n.velocity == c.velocity
 }
 
 // The cells behind the next run, if n is its note.

@@ -68,10 +68,7 @@ fn in_order(delta: u32, beats: u32, last: Note, n: Note) -> bool
     requires { (delta ≤ max_delta) × (beats ≤ max_beats) }
     ensures { result ≡ (note_ok delta beats n && follows last n) }
 {
-    if !notes::note_ok(delta, beats, n) {
-        return false;
-    }
-    notes::note_follows(last, n)
+    notes::note_ok(delta, beats, n) && notes::note_follows(last, n)
 }
 
 // What is asked of the notes beside cells that passed: ranges, order, and that they stand rightly beside them.
