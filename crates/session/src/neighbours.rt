@@ -126,13 +126,11 @@ pub fn cells_ok(delta: u32, beats: u32, cells: Cells) -> bool
         return false;
     }
     let mut last = first;
-    let mut left = behind;
-    while let Some((c, behind)) = left.split_first() {
+    for c in behind {
         if !next_ok(delta, beats, last, c) {
             return false;
         }
         last = c;
-        left = behind;
     }
     !rules::is_filling(delta, last)
 }

@@ -74,3 +74,37 @@ impl<'a> Cells<'a> {
         }
     }
 }
+
+impl<'a> Iterator for Notes<'a> {
+    ghost use Rattle.session.specs.Sliced.{notes_of, NoteGiven};
+    ghost use Rattle.std.specs.Iterator.{at_most};
+
+    type Item = Note;
+
+    ghost next_gives = { NoteGiven };
+
+    ghost remaining = { λ ns. at_most (length (notes_of ns)) };
+
+    fn next(&mut self) -> Option<Note> {
+        let (n, behind) = self.split_first()?;
+        *self = behind;
+        Some(n)
+    }
+}
+
+impl<'a> Iterator for Cells<'a> {
+    ghost use Rattle.session.specs.Sliced.{cells_of, CellGiven};
+    ghost use Rattle.std.specs.Iterator.{at_most};
+
+    type Item = Cell;
+
+    ghost next_gives = { CellGiven };
+
+    ghost remaining = { λ cs. at_most (length (cells_of cs)) };
+
+    fn next(&mut self) -> Option<Cell> {
+        let (c, behind) = self.split_first()?;
+        *self = behind;
+        Some(c)
+    }
+}

@@ -78,12 +78,11 @@ pub fn notes_ok(h: Header, beats: u32, notes: Notes, cells: Cells) -> bool
 {
     let by = Divisor::new(h.delta);
     let mut last = notes::before_all();
-    let mut rest = notes;
     let mut left = Left {
         beside: cells,
         line: cells,
     };
-    while let Some((n, behind)) = rest.split_first() {
+    for n in notes {
         if !in_order(h.delta, beats, last, n) {
             return false;
         }
@@ -91,7 +90,6 @@ pub fn notes_ok(h: Header, beats: u32, notes: Notes, cells: Cells) -> bool
             return false;
         };
         last = n;
-        rest = behind;
         left = passed;
     }
     runs::gives_none(h, left.line)

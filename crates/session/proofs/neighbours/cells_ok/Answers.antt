@@ -1,4 +1,4 @@
--- `session::neighbours::cells_ok` meets its contract. The measure is how many cells are left.
+-- `session::neighbours::cells_ok` meets its contract. The cells behind a cell are in its iterator.
 use mathlib.Core.Path.{sym, ◌∙◌}
 use Rattle.session.proofs.Chains.{none_ok, first_wrong, first_right, next_wrong, next_right, last_ok}
 use Rattle.session.proofs.neighbours.cells_ok.Goals as goal
@@ -10,13 +10,13 @@ pub returns-then-not-first_ok : goal.returns-then-not-first_ok
 returns-then-not-first_ok c = first_wrong _ _ c.in-Some.ensures c.first_ok.ensures c.if-not-first_ok.true
 
 pub loop-c-init : goal.loop-c-init
-loop-c-init c = first_right _ _ c.in-Some.ensures c.first_ok.ensures c.if-not-first_ok.false
+loop-c-init c = (tt, tt, rw c.into_iter-c-iterator.ensures.into_iter_gives (first_right _ _ c.in-Some.ensures c.first_ok.ensures c.if-not-first_ok.false))
 
 pub returns-then-not-next_ok : goal.returns-then-not-next_ok
-returns-then-not-next_ok c = sym (c.loop-c.invariant ∙ next_wrong _ _ c.in-Some-split_first.ensures _ c.next_ok.ensures c.if-not-next_ok.true)
+returns-then-not-next_ok c = sym (c.loop-c.invariant.2 ∙ next_wrong _ _ c.in-Some-c.ensures.steps _ c.next_ok.ensures c.if-not-next_ok.true)
 
 pub loop-c-preserved : goal.loop-c-preserved
-loop-c-preserved c = c.loop-c.invariant ∙ next_right _ _ c.in-Some-split_first.ensures _ c.next_ok.ensures c.if-not-next_ok.false
+loop-c-preserved c = (tt, tt, c.loop-c.invariant.2 ∙ next_right _ _ c.in-Some-c.ensures.steps _ c.next_ok.ensures c.if-not-next_ok.false)
 
 pub returns : goal.returns
-returns c = last_ok _ _ _ c.in_default-split_first.ensures c.is_filling.ensures ∙ sym c.loop-c.invariant
+returns c = last_ok _ _ _ c.in-None.ensures.steps c.is_filling.ensures ∙ sym c.loop-c.invariant.2

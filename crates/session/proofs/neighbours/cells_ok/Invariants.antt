@@ -1,6 +1,5 @@
--- `session::neighbours::cells_ok` meets its contract. The measure is how many words are left.
+-- `session::neighbours::cells_ok` meets its contract. The cells behind a cell are in its iterator.
 use mathlib.Core.Path.{◌≡◌}
-use lib.ListN.{length}
 use Rattle.session.specs.Sliced.{cells_of}
 use mathlib.Core.Bool.{◌&&◌}
 use Rattle.model.specs.Lists.{every}
@@ -8,7 +7,6 @@ use Rattle.laws.specs.Chain.{cell_ok, cells_chain, cells_sound}
 use Rattle.session.proofs.neighbours.cells_ok.Given as goal
 
 abbrev pub invariant-loop-c : goal.invariant-loop-c
-invariant-loop-c l = every (cell_ok l.delta l.beats) (cells_of l.cells) && cells_sound l.delta (cells_of l.cells) ≡ every (cell_ok l.delta l.beats) (cells_of l.left) && cells_chain l.delta l.last (cells_of l.left)
-
-abbrev pub decreases-loop-c : goal.decreases-loop-c
-decreases-loop-c l = length (cells_of l.left)
+invariant-loop-c l =
+    (goal.iterator-loop-c).can_next l.c-iterator × (goal.iterator-loop-c).is_finite l.c-iterator
+    × (every (cell_ok l.delta l.beats) (cells_of l.cells) && cells_sound l.delta (cells_of l.cells) ≡ every (cell_ok l.delta l.beats) (cells_of l.c-iterator) && cells_chain l.delta l.last (cells_of l.c-iterator))
