@@ -1,6 +1,6 @@
 -- What stands behind some first elements of a list. Assumes nothing.
-use mathlib.Core.Path.{◌≡◌, refl, sym, ap, ◌∙◌}
-use mathlib.Core.Bool.{Bool, true, false, ◌||◌}
+use mathlib.Core.Path.{◌≡◌, refl, sym, ◌∙◌}
+use mathlib.Core.Bool.{Bool, true, false, not, ◌||◌, true≢false}
 use mathlib.Core.List.{List, [], ◌∷◌}
 use Prim.Native.Nat.{ℕ, ◌≤◌}
 use native.Mathlib.Omega.{arith}
@@ -11,7 +11,7 @@ use Rattle.model.specs.declared.Cell.{Cell}
 use Rattle.laws.specs.Relations.{All}
 use Rattle.laws.specs.Sweep.{earlier, skip}
 use Rattle.laws.specs.Walk.{linked}
-use Rattle.session.specs.Running.{from_shown, from_last}
+use Rattle.session.specs.Running.{from_first, from_shown, from_last}
 
 module _ {A : Type 0} where
   pub data Tail : List A → List A → Type 0 where
@@ -36,21 +36,25 @@ module _ {A : Type 0} where
   all_first P here a = a.0
   all_first P (there t) a = all_first P t a.1
 
--- a search through a list: it goes past the first element, or stops at it
-module _ {A : Type 0} (f : List A → List A) {xs ys : List A} {x : A} (is : xs ≡ x ∷ ys) where
-  pub past : f (x ∷ ys) ≡ f ys → f ys ≡ f xs
-  past e = sym (ap f is ∙ e)
-
-  pub stop : f (x ∷ ys) ≡ x ∷ ys → xs ≡ f xs
-  stop e = is ∙ sym (ap f is ∙ e)
-
-pub stop_none : {A : Type 0} (f : List A → List A) {xs : List A} → xs ≡ [] → f [] ≡ [] → xs ≡ f xs
-stop_none f is e = is ∙ sym (ap f is ∙ e)
+-- a search goes past a cell at which the test fails
+module _ (p : Cell → List Cell → Bool) {xs ys : List Cell} {x : Cell} (is : xs ≡ x ∷ ys) {r : Bool} (e : r ≡ p x ys) where
+  pub past : r ≡ false → from_first p ys ≡ from_first p xs
+  past t = rw is (go (p x ys) (sym e ∙ t))
+    where
+      go : (b : Bool) → b ≡ false → from_first p ys ≡ elim b [ true ↦ x ∷ ys | false ↦ from_first p ys ]
+      go true f = absurd (true≢false f)
+      go false f = refl
 
 module _ (l b : ℕ) where
-  pub skip_none : skip l b [] ≡ []
+  pub skip_first : (cs : List Cell) → from_first (λ c ds. not (earlier l b c)) cs ≡ skip l b cs
   unfolding skip
-  skip_none = refl
+  skip_first [] = refl
+  skip_first (c ∷ cs) = go (earlier l b c) (skip_first cs)
+    where
+      go : (t : Bool) → from_first (λ c ds. not (earlier l b c)) cs ≡ skip l b cs
+          → ◌≡◌ {A = List Cell} (elim (not t) [ true ↦ c ∷ cs | false ↦ from_first (λ c ds. not (earlier l b c)) cs ]) (elim t [ true ↦ skip l b cs | false ↦ c ∷ cs ])
+      go true ih = ih
+      go false ih = refl
 
   pub skip_tail : (cs : List Cell) → Tail cs (skip l b cs)
   unfolding skip
@@ -62,9 +66,25 @@ module _ (l b : ℕ) where
       go false u = here
 
 module _ (h : Header) where
-  pub shown_none : from_shown h [] ≡ []
+  pub shown_first : (cs : List Cell) → from_first (λ c ds. stands_alone h c || linked h c ds) cs ≡ from_shown h cs
   unfolding from_shown
-  shown_none = refl
+  shown_first [] = refl
+  shown_first (c ∷ cs) = go (stands_alone h c || linked h c cs) (shown_first cs)
+    where
+      go : (t : Bool) → from_first (λ c ds. stands_alone h c || linked h c ds) cs ≡ from_shown h cs
+          → ◌≡◌ {A = List Cell} (elim t [ true ↦ c ∷ cs | false ↦ from_first (λ c ds. stands_alone h c || linked h c ds) cs ]) (elim t [ true ↦ c ∷ cs | false ↦ from_shown h cs ])
+      go true ih = refl
+      go false ih = ih
+
+  pub last_first : (cs : List Cell) → from_first (λ c ds. not (linked h c ds)) cs ≡ from_last h cs
+  unfolding from_last
+  last_first [] = refl
+  last_first (c ∷ cs) = go (linked h c cs) (last_first cs)
+    where
+      go : (t : Bool) → from_first (λ c ds. not (linked h c ds)) cs ≡ from_last h cs
+          → ◌≡◌ {A = List Cell} (elim (not t) [ true ↦ c ∷ cs | false ↦ from_first (λ c ds. not (linked h c ds)) cs ]) (elim t [ true ↦ from_last h cs | false ↦ c ∷ cs ])
+      go true ih = ih
+      go false ih = refl
 
   pub link_none : from_last h [] ≡ []
   unfolding from_last
@@ -89,14 +109,6 @@ module _ (h : Header) where
       go false u = here
 
   module _ (c : Cell) (cs : List Cell) where
-    pub shown_no : stands_alone h c || linked h c cs ≡ false → from_shown h (c ∷ cs) ≡ from_shown h cs
-    unfolding from_shown
-    shown_no e = rw (e, from_shown)
-
-    pub shown_yes : stands_alone h c || linked h c cs ≡ true → from_shown h (c ∷ cs) ≡ c ∷ cs
-    unfolding from_shown
-    shown_yes e = rw (e, from_shown)
-
     pub link_yes : linked h c cs ≡ true → from_last h (c ∷ cs) ≡ from_last h cs
     unfolding from_last
     link_yes e = rw (e, from_last)

@@ -6,6 +6,11 @@ use Rattle.model.specs.declared.Note.{Note}
 use Rattle.model.specs.declared.Cell.{Cell}
 use Rattle.laws.specs.Walk.{linked}
 
+-- The cells from the first one on at which a test of a cell and those behind it holds.
+abbrev pub from_first : (Cell → List Cell → Bool) → List Cell → List Cell
+from_first p [] = []
+from_first p (c ∷ cs) = elim (p c cs) [ true ↦ c ∷ cs | false ↦ from_first p cs ]
+
 -- The cells from the first whose piece is shown.
 unfoldable pub from_shown : Header → List Cell → List Cell
 unfolding stands_alone linked

@@ -21,14 +21,7 @@ fn is_earlier(lane: u32, beat: u32, c: Cell) -> bool
 pub fn from_beat(cells: Cells, lane: u32, beat: u32) -> Cells
     ensures { cells_of result ≡ skip lane beat (cells_of cells.entry) }
 {
-    let mut left = cells;
-    while let Some((c, behind)) = left.split_first() {
-        if !is_earlier(lane, beat, c) {
-            return left;
-        }
-        left = behind;
-    }
-    left
+    cells.from_first(|c, _| !is_earlier(lane, beat, c))
 }
 
 // The same among the last `left` cells up to place `end`: how many are left from that cell on. A later search goes on from there.

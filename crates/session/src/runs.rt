@@ -34,28 +34,14 @@ fn is_shown(h: Header, c: Cell, behind: Cells) -> bool
 pub fn first_of_run(h: Header, cells: Cells) -> Cells
     ensures { cells_of result ≡ from_shown h (cells_of cells.entry) }
 {
-    let mut left = cells;
-    while let Some((c, behind)) = left.split_first() {
-        if is_shown(h, c, behind) {
-            return left;
-        }
-        left = behind;
-    }
-    left
+    cells.from_first(|c, behind| is_shown(h, c, behind))
 }
 
 // Passes linked cells: the cells from the last of the run on, or none if the cells end with a linked one.
 pub fn last_of_run(h: Header, cells: Cells) -> Cells
     ensures { cells_of result ≡ from_last h (cells_of cells.entry) }
 {
-    let mut left = cells;
-    while let Some((c, behind)) = left.split_first() {
-        if !is_linked(h, c, behind) {
-            return left;
-        }
-        left = behind;
-    }
-    left
+    cells.from_first(|c, behind| !is_linked(h, c, behind))
 }
 
 // Is n the note of a run from the piece of cell c to the piece of cell d?

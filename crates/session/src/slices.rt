@@ -40,8 +40,12 @@ impl<'a> Notes<'a> {
 }
 
 impl<'a> Cells<'a> {
+    ghost use Rattle.std.specs.Prelude.{Bool, List};
+    ghost use Rattle.model.specs.declared.Cell.{Cell};
     ghost use Rattle.session.specs.Passing.{fewer};
+    ghost use Rattle.session.specs.Running.{from_first};
     ghost use Rattle.session.specs.Sliced.{cells_of, first_cell};
+    ghost use Rattle.session.specs.declared.slices.Cells.{Cells};
 
     // The first cell and those behind it; none if there is none.
     pub fn split_first(self) -> Option<(Cell, Cells<'a>)>
@@ -61,6 +65,21 @@ impl<'a> Cells<'a> {
             }
             _ => None,
         }
+    }
+
+    // The cells from the first one on at which the test holds, or none. The test is given a cell and those behind it.
+    pub fn from_first<F: Fn(Cell, Cells<'a>) -> bool>(self, test: F) -> Cells<'a>
+        requires { F.IsAlwaysCallable test }
+        ensures { (p : Cell → List Cell → Bool) → ((c : Cell) (behind : Cells) (r : Bool) → F.post test c behind r → r ≡ p c (cells_of behind)) → cells_of result ≡ from_first p (cells_of self.entry) }
+    {
+        let mut left = self;
+        while let Some((c, behind)) = left.split_first() {
+            if test(c, behind) {
+                return left;
+            }
+            left = behind;
+        }
+        left
     }
 
     // These cells, if they are fewer than the others; else the others.

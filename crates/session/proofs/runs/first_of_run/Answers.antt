@@ -1,14 +1,10 @@
--- `session::runs::first_of_run` meets its contract. The measure is how many cells are left.
-use mathlib.Core.Path.{sym, ◌∙◌}
-use Rattle.session.specs.Running.{from_shown}
-use Rattle.session.proofs.Tails.{past, stop, stop_none, shown_yes, shown_no, shown_none}
+-- `session::runs::first_of_run` meets its contract.
+use mathlib.Core.Path.{◌∙◌}
+use Rattle.std.proofs.Common.{rules, ◌||◌}
+use Rattle.model.specs.Binding.{stands_alone}
+use Rattle.laws.specs.Walk.{linked}
+use Rattle.session.proofs.Tails.{shown_first}
 use Rattle.session.proofs.runs.first_of_run.Goals as goal
 
-pub returns-then-is_shown : goal.returns-then-is_shown
-returns-then-is_shown c = stop (from_shown c.args.h) c.in-Some.ensures (shown_yes _ _ _ (sym c.is_shown.ensures ∙ c.if-is_shown.true)) ∙ c.loop-c.invariant
-
-pub loop-c-preserved : goal.loop-c-preserved
-loop-c-preserved c = past (from_shown c.args.h) c.in-Some.ensures (shown_no _ _ _ (sym c.is_shown.ensures ∙ c.if-is_shown.false)) ∙ c.loop-c.invariant
-
 pub returns : goal.returns
-returns c = stop_none (from_shown c.args.h) c.in_default.ensures (shown_none _) ∙ c.loop-c.invariant
+returns c = c.from_first.ensures (λ x ys. stands_alone c.args.h x || linked c.args.h x ys) (λ x b r t. search rules) ∙ shown_first c.args.h _
