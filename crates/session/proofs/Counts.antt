@@ -136,9 +136,6 @@ module _ (δ : ℕ) (pos : 0 < δ) (t : ℕ) where
       go true e = let above : t / δ < k = lt_of_mul-lt-mul_right δ (omega (arith, ltb-true (t / δ * δ) t e)) in omega arith
       go false e = let above : t / δ < suc k = (div-lt_iff_lt-mul pos).1 (omega (arith, suc-mul k δ)) in omega arith
 
-  pub sides_few : t ≤ max_beats * δ → line_sides δ t ≤ 8192
-  sides_few = sides_upto max_beats
-
 -- a note has as many cells as there are more sides before its end than before its start
 pub sides_between : (δ : ℕ) (n : Note) → (0 < δ) × (δ ≤ max_delta) × (n.start < n.end) × (n.end ≤ max_beats * δ)
     → line_sides δ n.end ≡ line_sides δ n.start + length (cells_of_note δ n)

@@ -1,21 +1,17 @@
 -- The last notes and cells up to a place, one by one, and the searches through them. Assumes nothing.
-use mathlib.Core.Path.{◌≡◌, refl, sym, ap, ◌∙◌}
-use mathlib.Core.Bool.{Bool, true, false, not}
+use mathlib.Core.Path.{◌≡◌, refl, ◌∙◌}
+use mathlib.Core.Bool.{true, false}
 use mathlib.Core.List.{List, [], ◌∷◌}
 use Prim.Native.Nat.{ℕ, zero, suc, ◌+◌, ◌*◌, ◌-◌, ◌≤◌, ◌<◌}
 use native.Mathlib.Nat.{add-zero}
 use native.Mathlib.Omega.{arith}
-use borrow.Author.Tests.{not-true, not-false}
 use lib.ListN.{length, drop}
 use lib.Seq.{get_or-drop, drop-drop}
 use Rattle.model.specs.Takes.{read_notes, read_cells}
-use Rattle.model.specs.declared.Header.{Header}
 use Rattle.model.specs.declared.Cell.{Cell}
 use Rattle.laws.specs.Reading.{length-cells}
 use Rattle.laws.specs.Sweep.{earlier, skip}
-use Rattle.laws.specs.Walk.{linked}
 use Rattle.session.specs.Reading.{note_at, cell_at, last_notes, last_cells}
-use Rattle.session.specs.Running.{first_linked, first_shown, from_shown, from_last}
 use Rattle.session.proofs.Readings.{notes_cons}
 
 -- ---- one by one
@@ -66,61 +62,6 @@ module _ (l b : ℕ) (c : Cell) (cs : List Cell) where
   unfolding skip
   skip_no e = rw (e, skip)
 
-module _ (h : Header) (c : Cell) (cs : List Cell) where
-  shown_no : first_shown h (c ∷ cs) ≡ false → from_shown h (c ∷ cs) ≡ from_shown h cs
-  unfolding first_shown from_shown
-  shown_no e = rw (e, from_shown)
-
-  shown_yes : first_shown h (c ∷ cs) ≡ true → from_shown h (c ∷ cs) ≡ c ∷ cs
-  unfolding first_shown from_shown
-  shown_yes e = rw (e, from_shown)
-
-  pub link_yes : linked h c cs ≡ true → from_last h (c ∷ cs) ≡ from_last h cs
-  unfolding from_last
-  link_yes e = rw (e, from_last)
-
-  pub link_no : linked h c cs ≡ false → from_last h (c ∷ cs) ≡ c ∷ cs
-  unfolding from_last
-  link_no e = rw (e, from_last)
-
 module _ (ws : List ℕ) (end k : ℕ) (some : 0 < k) (fits : 6 * k ≤ end) where
   pub cons : {c : Cell} → c ≡ cell_at ws (end - 6 * k) → last_cells ws end k ≡ c ∷ last_cells ws end (k - 1)
   cons is = rw is (last_cells_lem ws end k some fits)
-
-  module _ (l b : ℕ) {c : Cell} (is : c ≡ cell_at ws (end - 6 * k)) {p : Bool} (e : p ≡ earlier l b c) where
-    pub skip-past : not p ≡ false → skip l b (last_cells ws end (k - 1)) ≡ skip l b (last_cells ws end k)
-    skip-past t = sym (ap (skip l b) (cons is) ∙ skip_yes l b c (last_cells ws end (k - 1)) (sym e ∙ not-false p t))
-
-    pub skip_stop : not p ≡ true → last_cells ws end k ≡ skip l b (last_cells ws end k)
-    skip_stop t = cons is ∙ sym (ap (skip l b) (cons is) ∙ skip_no l b c (last_cells ws end (k - 1)) (sym e ∙ not-true p t))
-
-  module _ (h : Header) {p : Bool} where
-    pub shown_past : p ≡ first_shown h (last_cells ws end k) → p ≡ false → from_shown h (last_cells ws end (k - 1)) ≡ from_shown h (last_cells ws end k)
-    shown_past e t = rw (cons refl) (sym (shown_no h _ _ (sym (rw (cons refl) at e) ∙ t)))
-
-    pub shown_stop : p ≡ first_shown h (last_cells ws end k) → p ≡ true → last_cells ws end k ≡ from_shown h (last_cells ws end k)
-    shown_stop e t = rw (cons refl) (sym (shown_yes h _ _ (sym (rw (cons refl) at e) ∙ t)))
-
-    pub link_past : p ≡ first_linked h (last_cells ws end k) → not p ≡ false → from_last h (last_cells ws end (k - 1)) ≡ from_last h (last_cells ws end k)
-    unfolding first_linked
-    link_past e t = rw (cons refl) (sym (link_yes h _ _ (sym (rw (cons refl) at e) ∙ not-false p t)))
-
-    pub link_stop : p ≡ first_linked h (last_cells ws end k) → not p ≡ true → last_cells ws end k ≡ from_last h (last_cells ws end k)
-    unfolding first_linked
-    link_stop e t = rw (cons refl) (sym (link_no h _ _ (sym (rw (cons refl) at e) ∙ not-true p t)))
-
-module _ (ws : List ℕ) (end : ℕ) where
-  pub skip_end : (l b k : ℕ) → k ≤ 0 → last_cells ws end 0 ≡ skip l b (last_cells ws end k)
-  unfolding skip
-  skip_end l b zero z = rw (no_cells ws end)
-  skip_end l b (suc k) z = absurd (omega arith)
-
-  pub shown_end : (h : Header) (k : ℕ) → k ≤ 0 → last_cells ws end 0 ≡ from_shown h (last_cells ws end k)
-  unfolding from_shown
-  shown_end h zero z = rw (no_cells ws end)
-  shown_end h (suc k) z = absurd (omega arith)
-
-  pub link_end : (h : Header) (k : ℕ) → k ≤ 0 → last_cells ws end 0 ≡ from_last h (last_cells ws end k)
-  unfolding from_last
-  link_end h zero z = rw (no_cells ws end)
-  link_end h (suc k) z = absurd (omega arith)

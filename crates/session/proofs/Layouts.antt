@@ -1,16 +1,15 @@
 -- The layout of a shelf, one law for each way out of the code. Assumes nothing.
 use mathlib.Core.Path.{◌≡◌, refl, sym, ap, ◌∙◌}
-use mathlib.Core.Bool.{Bool, true, false, ◌&&◌, and-true}
+use mathlib.Core.Bool.{Bool, true, false, ◌&&◌, and_assoc}
 use mathlib.Core.List.{List, [], ◌∷◌, ◌++◌}
-use Prim.Native.Nat.{ℕ, suc, ◌+◌, ◌-◌, ◌≤◌, ◌<◌}
+use Prim.Native.Nat.{ℕ, ◌-◌, ◌≤◌, ◌<◌}
 use native.Mathlib.Omega.{arith}
-use native.Mathlib.Numerals.{add-one}
 use borrow.Author.Tests.{le-leb, lt-leb, eq-eqb, ne_eqb, eqb-true, eqb-false}
 use lib.Dec.{eqb}
 use lib.Bits.{bit_or, or_add_and, and_le_l, and_le_r}
-use lib.ListN.{length, get_or, take, drop, length-drop, take-append-drop}
-use lib.Seq.{drop-drop, take_all}
-use Rattle.words.specs.Parts.{part_cons}
+use lib.ListN.{length, take, drop, length-drop, take-append-drop}
+use lib.Seq.{take_all}
+use Rattle.std.specs.List.{fold}
 use Rattle.model.specs.Limits.{max_beats}
 use Rattle.model.specs.Lists.{every}
 use Rattle.model.specs.Soundness.{layout_ok}
@@ -27,56 +26,38 @@ or_zero a b = go (eqb 0 b) (eqb a 0) refl refl
     go true false p q = ne_eqb (bit_or a b) 0 (λ e. eqb-false a 0 q (omega (arith, or_add_and a b, and_le_r a b)))
     go false u p q = ne_eqb (bit_or a b) 0 (λ e. eqb-false 0 b p (omega (arith, or_add_and a b, and_le_l a b)))
 
-module _ (ws : List ℕ) (from to : ℕ) where
-  -- what is joined, and what is left up to `to`
-  pub record Joining (all at : ℕ) : Type 0 where
-    pub low : from ≤ at
-    pub high : at ≤ to
-    pub same : (eqb all 0 && every (eqb 0) (take (to - at) (drop at ws))) ≡ every (eqb 0) (take (to - from) (drop from ws))
+swap : (a b c : Bool) → (a && b) && c ≡ b && (a && c)
+swap true true c = refl
+swap true false c = refl
+swap false true c = refl
+swap false false c = refl
 
-  pub joining_start : from ≤ to → Joining 0 from
-  joining_start h = record { low = omega arith; high = h; same = refl }
-
-  pub joining_more : (all at : ℕ) → Joining all at → at < to → to ≤ length ws → Joining (bit_or all (get_or ws at 0)) (at + 1)
-  joining_more all at j less inside =
-      let e : to - at ≡ suc (to - (at + 1)) = omega arith in
-      let f : every (eqb 0) (take (to - at) (drop at ws)) ≡ eqb 0 (get_or ws at 0) && every (eqb 0) (take (to - (at + 1)) (drop (at + 1) ws)) =
-      rw (e, part_cons ws at (to - (at + 1)) (omega arith), add-one) in
-      record { low = omega (arith, j.low); high = omega arith; same = rw (or_zero all (get_or ws at 0)) (swap (eqb 0 (get_or ws at 0)) (eqb all 0) (every (eqb 0) (take (to - (at + 1)) (drop (at + 1) ws))) ∙ ap (◌&&◌ (eqb all 0)) (sym f) ∙ j.same) }
-    where
-      swap : (a b c : Bool) → (a && b) && c ≡ b && (a && c)
-      swap true true c = refl
-      swap true false c = refl
-      swap false true c = refl
-      swap false false c = refl
-
-  pub joining_done : (all at : ℕ) → Joining all at → to ≤ at → eqb all 0 ≡ every (eqb 0) (take (to - from) (drop from ws))
-  joining_done all at j h = let e : to - at ≡ 0 = omega arith in sym (and-true (eqb all 0)) ∙ rw e at j.same
-
-every_append : (xs ys : List ℕ) → every (eqb 0) (xs ++ ys) ≡ every (eqb 0) xs && every (eqb 0) ys
-every_append [] ys = refl
-every_append (x ∷ xs) ys = go (eqb 0 x) (every_append xs ys)
+joined_from : (a : ℕ) (ws : List ℕ) → eqb (fold bit_or a ws) 0 ≡ eqb a 0 && every (eqb 0) ws
+joined_from a [] = go (eqb a 0)
   where
-    go : (b : Bool) → every (eqb 0) (xs ++ ys) ≡ every (eqb 0) xs && every (eqb 0) ys → b && every (eqb 0) (xs ++ ys) ≡ (b && every (eqb 0) xs) && every (eqb 0) ys
-    go true e = e
-    go false e = refl
+    go : (b : Bool) → b ≡ b && true
+    go true = refl
+    go false = refl
+joined_from a (w ∷ ws) = joined_from (bit_or a w) ws ∙ ap (λ (b : Bool). b && every (eqb 0) ws) (or_zero a w) ∙ swap (eqb 0 w) (eqb a 0) (every (eqb 0) ws)
 
-module _ (ws : List ℕ) (at : ℕ) where
-  -- a block and what stands behind it
-  blocks : every (eqb 0) (drop at ws) ≡ every (eqb 0) (take 64 (drop at ws)) && every (eqb 0) (drop (at + 64) ws)
-  blocks = ap (every (eqb 0)) (sym (take-append-drop 64 (drop at ws))) ∙ every_append (take 64 (drop at ws)) (drop 64 (drop at ws)) ∙ rw (drop-drop 64 at ws)
+-- words joined by "or" are 0 only if all are
+pub joined_zero : (ws : List ℕ) {r : ℕ} → r ≡ fold bit_or 0 ws → eqb r 0 ≡ every (eqb 0) ws
+joined_zero ws e = ap (λ (x : ℕ). eqb x 0) e ∙ joined_from 0 ws
 
-  block_is : at + 64 - at ≡ 64
-  block_is = omega arith
+pub every_append : (xs ys : List ℕ) → every (eqb 0) (xs ++ ys) ≡ every (eqb 0) xs && every (eqb 0) ys
+every_append [] ys = refl
+every_append (x ∷ xs) ys = rw (every_append xs ys) (sym (and_assoc (eqb 0 x) (every (eqb 0) xs) (every (eqb 0) ys)))
 
-  pub block_past : {r : ℕ} → eqb r 0 ≡ every (eqb 0) (take (at + 64 - at) (drop at ws)) → r ≡ 0 → every (eqb 0) (drop (at + 64) ws) ≡ every (eqb 0) (drop at ws)
-  block_past {r} e z = let f : every (eqb 0) (take 64 (drop at ws)) ≡ true = rw block_is at (sym e ∙ eq-eqb r 0 z) in sym (blocks ∙ rw f)
+-- a block ahead of the other words
+module _ (n : ℕ) (ws : List ℕ) {block : List ℕ} (is : block ≡ take n ws) {r : ℕ} (e : r ≡ fold bit_or 0 block) where
+  parts : every (eqb 0) ws ≡ eqb r 0 && every (eqb 0) (drop n ws)
+  parts = ap (every (eqb 0)) (sym (take-append-drop n ws)) ∙ every_append (take n ws) (drop n ws) ∙ ap (λ (b : Bool). b && every (eqb 0) (drop n ws)) (sym (joined_zero block e ∙ ap (every (eqb 0)) is))
 
-  pub block_not : {r : ℕ} → eqb r 0 ≡ every (eqb 0) (take (at + 64 - at) (drop at ws)) → (r ≡ 0 → ⊥) → every (eqb 0) (drop at ws) ≡ false
-  block_not {r} e z = let f : every (eqb 0) (take 64 (drop at ws)) ≡ false = rw block_is at (sym e ∙ ne_eqb r 0 z) in blocks ∙ rw f
+  pub block_not : (r ≡ 0 → ⊥) → false ≡ every (eqb 0) ws
+  block_not o = sym (parts ∙ rw (ne_eqb r 0 o))
 
-  pub rest_is : every (eqb 0) (take (length ws - at) (drop at ws)) ≡ every (eqb 0) (drop at ws)
-  rest_is = ap (every (eqb 0)) (take_all (length ws - at) (drop at ws) (omega (arith, length-drop at ws)))
+  pub block_past : r ≡ 0 → {rest : List ℕ} → rest ≡ drop n ws → every (eqb 0) rest ≡ every (eqb 0) ws
+  block_past z f = ap (every (eqb 0)) f ∙ sym (parts ∙ rw (eq-eqb r 0 z))
 
 module _ (W : ℕ) (ws : List ℕ) where
   pub many_beats : max_beats < word ws 0 → false ≡ layout_ok W ws
@@ -88,6 +69,8 @@ module _ (W : ℕ) (ws : List ℕ) where
     unfolding layout_ok
     too_long h = rw (le-leb (word ws 0) max_beats few, ← is, lt-leb u W h)
 
-    pub by_zeros : u ≤ W → {p : Bool} → p ≡ every (eqb 0) (drop u ws) → p ≡ layout_ok W ws
+    pub by_zeros : u ≤ W → {p : Bool} → p ≡ every (eqb 0) (take (W - u) (drop u ws)) → W ≡ length ws → p ≡ layout_ok W ws
     unfolding layout_ok
-    by_zeros h e = rw (le-leb (word ws 0) max_beats few, ← is, le-leb u W h) e
+    by_zeros h e long =
+        let all : take (W - u) (drop u ws) ≡ drop u ws = take_all (W - u) (drop u ws) (omega (arith, length-drop u ws)) in
+        rw (le-leb (word ws 0) max_beats few, ← is, le-leb u W h) (e ∙ ap (every (eqb 0)) all)

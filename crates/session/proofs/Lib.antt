@@ -3,12 +3,15 @@ pub mod Frames
 pub mod Counts
 pub mod Quotients
 pub mod Readings
+pub mod Wholes
 pub mod Checks
 pub mod WaysOut
 pub mod Layouts
 pub mod Lasts
+pub mod Tails
 pub mod Chains
 pub mod Walks
 pub mod Standings
+pub mod Passes
 pub mod Shelves
 pub mod Sources

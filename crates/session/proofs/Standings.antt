@@ -1,12 +1,14 @@
--- The pass over the notes: what each note's check answers, and what is left to ask behind it. Assumes nothing.
+-- The notes one after the other: what stands beside the cells when all have passed. Assumes nothing.
 use mathlib.Core.Path.{◌≡◌, refl, sym, ap, subst, ◌∙◌}
 use mathlib.Core.Bool.{Bool, true, false, not, ◌&&◌, and-false}
 use mathlib.Core.List.{List, [], ◌∷◌}
-use Prim.Native.Nat.{ℕ, zero, suc, ◌+◌, ◌*◌, ◌-◌, ◌≤◌, ◌<◌}
+use Prim.Native.Nat.{ℕ, ◌*◌, ◌≤◌, ◌<◌}
 use native.Mathlib.Nat.{mul-le-mul_right}
 use native.Mathlib.Omega.{arith}
-use borrow.Author.Tests.{not-true, not-false, eq-eqb, eqb-true, ne_eqb}
-use lib.Dec.{eqb}
+use borrow.Author.Tests.{eqb-true, ltb-true}
+use lib.Dec.{eqb, ltb}
+use lib.ListN.{length}
+use Rattle.std.specs.Prelude.{Option, Some, None}
 use Rattle.model.specs.Binding.{end_of}
 use Rattle.model.specs.Limits.{max_beats}
 use Rattle.model.specs.Lists.{every, keep}
@@ -22,84 +24,45 @@ use Rattle.laws.specs.Notes.{Follow, Long, fair, long_notes, ok_pairs}
 use Rattle.laws.specs.Relations.{All, Pairs, all_imp, all_keep, pairs-keep}
 use Rattle.laws.specs.Solid.{Apart}
 use Rattle.laws.specs.Sweep.{skip, clear_two, sweep, sweep_without, clear_of_last, clear_of_earlier}
-use Rattle.session.specs.Checking.{given_by, standing, notes_asked, before_all, chained, Tested, RunFound, Passes}
-use Rattle.session.specs.Reading.{note_at, cell_at, last_notes, last_cells}
-use Rattle.session.specs.Running.{from_shown, from_last, note_of_run, same_note}
-use Rattle.session.specs.declared.sound.Passed.{Passed}
+use Rattle.session.specs.Checking.{given_by, standing, notes_asked, before_all}
+use Rattle.session.specs.Passing.{fewer, passed_inner, passed_line, passed, all_pass}
+use Rattle.session.specs.Running.{from_shown, from_last, note_of_run, same_note, behind_ends, behind_run}
 use Rattle.session.proofs.Checks.{first_follows_lem}
-use Rattle.session.proofs.Lasts.{no_notes, no_cells, last_notes_lem, cons}
-use Rattle.session.proofs.Walks.{run_lane, gives_nothing, gives_note, inner_first, line_first, line-none, none_left, one_left}
+use Rattle.session.proofs.Tails.{Tail, Tail.here, Tail.there, tail_of_tail, two_tails, all_first, skip_tail, shown_tail, last_tail, link_none}
+use Rattle.session.proofs.Walks.{run_lane, gives_nothing, gives_note, inner_first, line_first, line-none}
 
--- ---- one note
+-- ---- cells that passed their test
 
-module _ (h : Header) (ws : List ℕ) (end : ℕ) where
-  none : (k : ℕ) → k ≡ 0 → last_cells ws end k ≡ []
-  none zero z = no_cells ws end
-  none (suc k) z = absurd (omega arith)
+-- each cell passes the test with the next one
+unfoldable pub chained : ℕ → List Cell → Bool
+unfolding cells_chain
+chained δ [] = true
+chained δ (c ∷ cs) = cells_chain δ c cs
 
-  module _ (first last line : ℕ) (f : last_cells ws end first ≡ from_shown h (last_cells ws end line)) (l : last_cells ws end last ≡ from_last h (last_cells ws end first)) where
-    pub nothing_given : last ≡ 0 → given_by h [] (last_cells ws end line) ≡ true
-    nothing_given z = none_left h _ (gives_nothing h _ _ _ f l (none last z))
+-- what the test of the cells has shown of those that are left
+abbrev pub Tested : ℕ → List Cell → Type 0
+Tested δ cs = Pairs (Apart δ) cs × (chained δ cs ≡ true)
 
-    pub note-given : 0 < last → last ≤ first → 6 * first ≤ end → given_by h [] (last_cells ws end line) ≡ false
-    note-given some le fits =
-        one_left h _ _ _ (gives_note h _ _ _ f l _ _ _ _ (cons ws end first (omega arith) fits refl) (cons ws end last some (omega arith) refl))
-
-    pub by_last : last ≤ first → 6 * first ≤ end → eqb last 0 ≡ given_by h [] (last_cells ws end line)
-    by_last le fits = go last refl
-      where
-        go : (k : ℕ) → k ≡ last → eqb last 0 ≡ given_by h [] (last_cells ws end line)
-        go zero e = let z : last ≡ 0 = omega arith in rw (eq-eqb last 0 z) (sym (nothing_given z))
-        go (suc k) e = rw (ne_eqb last 0 (λ z. omega arith)) (sym (note-given (omega arith) le fits))
-
-    pub passes_none : {n : Note} (beside : ℕ) → inside h.delta n ≡ false → last ≡ 0 → Passes h ws end n beside line (record { right = false; beside = beside; line = line })
-    passes_none {n} beside i z = record {
-      first = λ ns v a t u. line-none h n ns _ _ i (gives_nothing h _ _ _ f l (none last z));
-      beside_left = omega arith;
-      line-left = omega arith;
-    }
-
-  pub passes_inner : {n : Note} {beside : ℕ} (line : ℕ) → inside h.delta n ≡ true → {beat : ℕ} → beat ≡ first_beat h.delta n
-      → {left : ℕ} → (last_cells ws end left ≡ skip n.lane beat (last_cells ws end beside)) × (left ≤ beside)
-      → {p : Bool} → p ≡ clear_two h.delta n (last_cells ws end left) → Passes h ws end n beside line (record { right = p; beside = left; line = line })
-  passes_inner {n} {beside} line i is s e = record {
-    first = λ ns v a t u. inner_first h n ns _ _ i _ (s.0 ∙ ap (λ (b : ℕ). skip n.lane b (last_cells ws end beside)) is) e;
-    beside_left = s.1;
-    line-left = omega arith;
-  }
-
--- ---- a note and its run
-
--- the cells behind the first ones are tested too
-tested_tail : (δ : ℕ) (c : Cell) (cs : List Cell) → Tested δ (c ∷ cs) → Tested δ cs
+tested_behind : (δ : ℕ) (c : Cell) (cs : List Cell) → Tested δ (c ∷ cs) → Tested δ cs
 unfolding chained cells_chain
-tested_tail δ c [] t = (tt, refl)
-tested_tail δ c (d ∷ ds) t = (t.0.1, and_right (neighbours δ c d) (cells_chain δ d ds) t.1)
+tested_behind δ c [] t = (tt, refl)
+tested_behind δ c (d ∷ ds) t = (t.0.1, and_right (neighbours δ c d) (cells_chain δ d ds) t.1)
+
+tested_tail : (δ : ℕ) {cs ds : List Cell} → Tail cs ds → Tested δ cs → Tested δ ds
+tested_tail δ here t = t
+tested_tail δ (there u) t = tested_tail δ u (tested_behind δ _ _ t)
 
 sound-chained : (δ : ℕ) (cs : List Cell) → cells_sound δ cs ≡ true → chained δ cs ≡ true
 unfolding chained cells_sound
 sound-chained δ [] s = refl
 sound-chained δ (c ∷ cs) s = and_right (not (filled δ c)) _ s
 
--- all cells, behind their test
 tested_all : (δ beats : ℕ) (cs : List Cell) → every (cell_ok δ beats) cs && cells_sound δ cs ≡ true → Tested δ cs
 tested_all δ beats cs e =
     let s = and_right (every (cell_ok δ beats) cs) _ e in
     (cells-apart_of δ beats cs (and_left (every (cell_ok δ beats) cs) _ e) s, sound-chained δ cs s)
 
-module _ (h : Header) (ws : List ℕ) (end : ℕ) where
-  tested_less : (more j k : ℕ) → j ≡ more + k → 6 * j ≤ end → Tested h.delta (last_cells ws end j) → Tested h.delta (last_cells ws end k)
-  tested_less zero j k e fits t = let is : j ≡ k = omega arith in rw is at t
-  tested_less (suc more) j k e fits t =
-      tested_less more (j - 1) k (omega arith) (omega arith) (tested_tail h.delta _ _ (subst (Tested h.delta) (cons ws end j (omega arith) fits refl) t))
-
-  pub tested_from : (j k : ℕ) → k ≤ j → 6 * j ≤ end → Tested h.delta (last_cells ws end j) → Tested h.delta (last_cells ws end k)
-  tested_from j k le fits t = tested_less (j - k) j k (omega arith) fits t
-
--- what is asked behind a test may use that the test passed
-late : (a x y : Bool) → (a ≡ true → x ≡ y) → a && x ≡ a && y
-late true x y e = e refl
-late false x y e = refl
+-- ---- a note and its run
 
 module _ (m n : Note) (e : same_note m n ≡ true) where
   same_lane : m.lane ≡ n.lane
@@ -110,173 +73,212 @@ module _ (m n : Note) (e : same_note m n ≡ true) where
   unfolding same_note
   same_end = eqb-true _ _ (and_right (eqb m.lane n.lane && eqb m.start n.start) _ (and_left _ _ e))
 
-module _ (h : Header) (ws : List ℕ) (end : ℕ) (d : Cell) (last : ℕ) (some : 0 < last) (b : d ≡ cell_at ws (end - 6 * last)) where
-  -- what holds of all cells up to d holds of d
-  at_last : (P : Cell → Type 0) (more j : ℕ) → j ≡ more + last → 6 * j ≤ end → All P (last_cells ws end j) → P d
-  at_last P zero j e fits a = let is : j ≡ last = omega arith in (subst (All P) (cons ws end last some (omega arith) b) (rw is at a)).0
-  at_last P (suc more) j e fits a = at_last P more (j - 1) (omega arith) (omega arith) (subst (All P) (cons ws end j (omega arith) fits refl) a).1
+-- the notes behind a note that ends with d are swept from the cell behind d on
+module _ (h : Header) (d : Cell) (rest : List Cell) (z : 0 < h.delta) (n : Note) (l : n.lane ≡ d.lane) (e : n.end ≡ end_of h.delta d) (ns : List Note) (v : All Long ns) (a : Pairs Follow ns) (f : All (Follow n) ns) where
+  without : (c : Cell) (cs : List Cell) → Pairs (Apart h.delta) (c ∷ cs) → ((m : Note) → Follow n m → clear h.delta m c ≡ true)
+      → sweep h.delta ns (c ∷ cs) ≡ sweep h.delta ns cs
+  without c cs s k = sweep_without h.delta z c cs ns v a s (all_imp (Follow n) (λ m. clear h.delta m c ≡ true) ns k f)
 
-  -- the notes behind a note that ends with d are swept from the cell behind d on
-  module _ (z : 0 < h.delta) (n : Note) (l : n.lane ≡ d.lane) (e : n.end ≡ end_of h.delta d) (ns : List Note) (v : All Long ns) (a : Pairs Follow ns) (f : All (Follow n) ns) where
-    abbrev swept : ℕ → Bool
-    swept j = sweep h.delta ns (last_cells ws end j)
+  sweep-behind : {cs : List Cell} → Tail cs (d ∷ rest) → Pairs (Apart h.delta) cs → sweep h.delta ns cs ≡ sweep h.delta ns rest
+  sweep-behind here s = without d rest s (λ m k. clear_of_last h.delta z n m d l e k)
+  sweep-behind (there {x} {xs} t) s =
+      let o : Apart h.delta x d = all_first (Apart h.delta x) t s.0 in
+      without x xs s (λ m k. clear_of_earlier h.delta z n m d l e k x o) ∙ sweep-behind t s.1
 
-    without : (j : ℕ) → 0 < j → 6 * j ≤ end → (c : Cell) → c ≡ cell_at ws (end - 6 * j) → Pairs (Apart h.delta) (last_cells ws end j)
-        → ((m : Note) → Follow n m → clear h.delta m c ≡ true) → swept j ≡ swept (j - 1)
-    without j more fits c is s k =
-        let at = cons ws end j more fits is in
-        ap (sweep h.delta ns) at ∙ sweep_without h.delta z c _ ns v a (subst (Pairs (Apart h.delta)) at s) (all_imp (Follow n) (λ m. clear h.delta m c ≡ true) ns k f)
+module _ (h : Header) (z : 0 < h.delta) {all : List Cell} (u : Tested h.delta all) (n : Note) (i : inside h.delta n ≡ false) where
+  module _ (c d : Cell) (more rest : List Cell) (starts : Tail all (c ∷ more)) (stops : from_last h (c ∷ more) ≡ d ∷ rest) (y : same_note n (note_of_run h.delta c d) ≡ true) where
+    run_end : n.lane ≡ d.lane
+    unfolding note_of_run chained
+    run_end = same_lane n (note_of_run h.delta c d) y ∙ sym (run_lane h c more (tested_tail h.delta starts u).1 d rest stops)
 
-    sweep-behind : (more j : ℕ) → j ≡ more + last → 6 * j ≤ end → Pairs (Apart h.delta) (last_cells ws end j) → swept j ≡ swept (last - 1)
-    sweep-behind zero j g fits s =
-        let is : j ≡ last = omega arith in
-        ap swept is ∙ without last some (omega arith) d b (rw is at s) (λ m k. clear_of_last h.delta z n m d l e k)
-    sweep-behind (suc more) j g fits s =
-        let x = cell_at ws (end - 6 * j) in
-        let t : Pairs (Apart h.delta) (x ∷ last_cells ws end (j - 1)) = subst (Pairs (Apart h.delta)) (cons ws end j (omega arith) fits refl) s in
-        let o : Apart h.delta x d = at_last (Apart h.delta x) more (j - 1) (omega arith) (omega arith) t.0 in
-        without j (omega arith) fits x refl s (λ m k. clear_of_earlier h.delta z n m d l e k x o)
-        ∙ sweep-behind more (j - 1) (omega arith) (omega arith) t.1
+    run_tail : Tail all (d ∷ rest)
+    run_tail = subst (Tail all) stops (tail_of_tail starts (last_tail h (c ∷ more)))
 
-module _ (h : Header) (ws : List ℕ) (end : ℕ) (n : Note) {line first last : ℕ} (i : inside h.delta n ≡ false) (r : RunFound h ws end line first last) (some : 0 < last) (fits : 6 * line ≤ end)
-    {c d : Cell} (a : c ≡ cell_at ws (end - 6 * first)) (b : d ≡ cell_at ws (end - 6 * last)) {p : Bool} (e : p ≡ same_note n (note_of_run h.delta c d)) where
-  at_first : last_cells ws end first ≡ c ∷ last_cells ws end (first - 1)
-  at_first = cons ws end first (omega (arith, r.last-left)) (omega (arith, r.first-left)) a
+    module _ (ns : List Note) (v : All Long ns) (a : Pairs Follow (n ∷ ns)) where
+      behind-run : {cs : List Cell} → Tail all cs → length rest < length cs
+          → sweep h.delta (keep (inside h.delta) ns) cs ≡ sweep h.delta (keep (inside h.delta) ns) rest
+      unfolding note_of_run
+      behind-run t less =
+          let within = inside h.delta in
+          let ends = same_end n (note_of_run h.delta c d) y in
+          let long : length (d ∷ rest) ≤ length _ = omega arith in
+          sweep-behind h d rest z n run_end ends (keep within ns) (all_keep Long within ns v) (pairs-keep Follow within ns a.1) (all_keep (Follow n) within ns a.0)
+          (two_tails t run_tail long) (tested_tail h.delta t u).0
 
-  at_end : last_cells ws end last ≡ d ∷ last_cells ws end (last - 1)
-  at_end = cons ws end last some (omega (arith, r.first-left, r.last-left)) b
+      beside-run : {cs : List Cell} → Tail all cs → standing h ns cs rest ≡ standing h ns (fewer rest cs) rest
+      unfolding standing fewer
+      beside-run {cs} t = go (ltb (length rest) (length cs)) refl
+        where
+          go : (b : Bool) → ltb (length rest) (length cs) ≡ b → standing h ns cs rest ≡ standing h ns (elim b [ true ↦ rest | false ↦ cs ]) rest
+          go true e = ap (λ (s : Bool). s && given_by h ns rest) (behind-run t (ltb-true _ _ e))
+          go false e = refl
 
-  run-first : (ns : List Note) (cs : List Cell) → standing h (n ∷ ns) cs (last_cells ws end line) ≡ p && standing h ns cs (last_cells ws end (last - 1))
-  run-first ns cs = line_first h n ns cs _ i (note_of_run h.delta c d) (last_cells ws end (last - 1)) (gives_note h _ _ _ r.starts r.stops c d _ _ at_first at_end) e
+-- ---- one note
 
-  -- the search beside the notes stays where it is, or goes on behind the run
-  pub passes_beside : (beside : ℕ) → Passes h ws end n beside line (record { right = p; beside = beside; line = last - 1 })
-  passes_beside beside = record {
-    first = λ ns v f t u. run-first ns (last_cells ws end beside);
-    beside_left = omega arith;
-    line-left = omega (arith, r.first-left, r.last-left);
-  }
+-- what is left to ask behind a note
+abbrev left_stands : Header → List Note → Option (List Cell × List Cell) → Bool
+left_stands h ns None = false
+left_stands h ns (Some l) = standing h ns l.0 l.1
 
-  run_end : p ≡ true → Tested h.delta (last_cells ws end line) → n.lane ≡ d.lane
-  unfolding note_of_run chained
-  run_end y u =
-      let t : chained h.delta (c ∷ last_cells ws end (first - 1)) ≡ true = subst (λ (cs : List Cell). chained h.delta cs ≡ true) at_first (tested_from h ws end line first r.first-left fits u).1 in
-      same_lane n (note_of_run h.delta c d) (sym e ∙ y) ∙ sym (run_lane h c (last_cells ws end (first - 1)) t d (last_cells ws end (last - 1)) (ap (from_last h) (sym at_first) ∙ sym r.stops ∙ at_end))
+abbrev LeftTails : List Cell → Option (List Cell × List Cell) → Type 0
+LeftTails all None = Unit {0}
+LeftTails all (Some l) = Tail all l.0 × Tail all l.1
 
-  behind-run : 0 < h.delta → (beside : ℕ) → last - 1 < beside → 6 * beside ≤ end → p ≡ true → (ns : List Note) → All Long ns → Pairs Follow (n ∷ ns)
-      → Tested h.delta (last_cells ws end beside) → Tested h.delta (last_cells ws end line)
-      → sweep h.delta (keep (inside h.delta) ns) (last_cells ws end beside) ≡ sweep h.delta (keep (inside h.delta) ns) (last_cells ws end (last - 1))
-  unfolding note_of_run
-  behind-run z beside less room y ns v f t u =
-      let within = inside h.delta in
-      let ends = same_end n (note_of_run h.delta c d) (sym e ∙ y) in
-      sweep-behind h ws end d last some b z n (run_end y u) ends (keep within ns) (all_keep Long within ns v) (pairs-keep Follow within ns f.1) (all_keep (Follow n) within ns f.0)
-      (beside - last) beside (omega arith) room t.0
+fewer_tail : {all cs ds : List Cell} → Tail all cs → Tail all ds → Tail all (fewer cs ds)
+unfolding fewer
+fewer_tail {all} {cs} {ds} t u = go (ltb (length cs) (length ds))
+  where
+    go : (b : Bool) → Tail all (elim b [ true ↦ cs | false ↦ ds ])
+    go true = t
+    go false = u
 
-  pub passes_behind : 0 < h.delta → (beside : ℕ) → last - 1 < beside → 6 * beside ≤ end → Passes h ws end n beside line (record { right = p; beside = last - 1; line = last - 1 })
-  unfolding standing
-  passes_behind z beside less room = record {
-    first = λ ns v f t u. run-first ns (last_cells ws end beside) ∙ late p _ _ (λ y. ap (λ (s : Bool). s && given_by h ns (last_cells ws end (last - 1))) (behind-run z beside less room y ns v f t u));
-    beside_left = omega arith;
-    line-left = omega (arith, r.first-left, r.last-left);
-  }
+module _ (h : Header) (n : Note) (ns : List Note) (cs ds : List Cell) where
+  inner_stands : inside h.delta n ≡ true → standing h (n ∷ ns) cs ds ≡ left_stands h ns (passed_inner h n cs ds)
+  unfolding passed_inner
+  inner_stands i = go (clear_two h.delta n es) refl
+    where
+      es : List Cell
+      es = skip n.lane (first_beat h.delta n) cs
+
+      go : (p : Bool) → clear_two h.delta n es ≡ p → standing h (n ∷ ns) cs ds ≡ left_stands h ns (elim p [ true ↦ Some (es, ds) | false ↦ None ])
+      go true e = inner_first h n ns cs ds i es refl (sym e)
+      go false e = inner_first h n ns cs ds i es refl (sym e)
+
+  inner_tails : {all : List Cell} → Tail all cs → Tail all ds → LeftTails all (passed_inner h n cs ds)
+  unfolding passed_inner
+  inner_tails {all} t u = go (clear_two h.delta n es)
+    where
+      es : List Cell
+      es = skip n.lane (first_beat h.delta n) cs
+
+      go : (p : Bool) → LeftTails all (elim p [ true ↦ Some (es, ds) | false ↦ None ])
+      go true = (tail_of_tail t (skip_tail n.lane (first_beat h.delta n) cs), u)
+      go false = tt
+
+  abbrev line_left : Option (List Cell) → Option (List Cell × List Cell)
+  line_left r = elim r [ None ↦ None | Some es ↦ Some (fewer es cs, es) ]
+
+  line_stands : 0 < h.delta → {all : List Cell} → Tested h.delta all → Tail all cs → Tail all ds → All Long ns → Pairs Follow (n ∷ ns) → inside h.delta n ≡ false
+      → standing h (n ∷ ns) cs ds ≡ left_stands h ns (passed_line h n cs ds)
+  unfolding passed_line behind_run behind_ends
+  line_stands z {all} tested t u v a i = ends (from_shown h ds) (from_last h (from_shown h ds)) refl refl
+    where
+      ends : (first last : List Cell) → from_shown h ds ≡ first → from_last h first ≡ last → standing h (n ∷ ns) cs ds ≡ left_stands h ns (line_left (behind_ends h n first last))
+      ends [] last f l = line-none h n ns cs ds i (gives_nothing h ds [] last (sym f) (sym l) (sym l ∙ link_none h))
+      ends (c ∷ more) [] f l = line-none h n ns cs ds i (gives_nothing h ds (c ∷ more) [] (sym f) (sym l) refl)
+      ends (c ∷ more) (d ∷ rest) f l = go (same_note n (note_of_run h.delta c d)) refl
+        where
+          first : {p : Bool} → p ≡ same_note n (note_of_run h.delta c d) → standing h (n ∷ ns) cs ds ≡ p && standing h ns cs rest
+          first e = line_first h n ns cs ds i (note_of_run h.delta c d) rest (gives_note h ds (c ∷ more) (d ∷ rest) (sym f) (sym l) c d more rest refl refl) e
+
+          go : (p : Bool) → same_note n (note_of_run h.delta c d) ≡ p → standing h (n ∷ ns) cs ds ≡ left_stands h ns (line_left (elim p [ true ↦ Some rest | false ↦ None ]))
+          go true e = first (sym e) ∙ beside-run h z tested n i c d more rest (subst (Tail all) f (tail_of_tail u (shown_tail h ds))) l e ns v a t
+          go false e = first (sym e)
+
+  line_tails : {all : List Cell} → Tail all cs → Tail all ds → LeftTails all (passed_line h n cs ds)
+  unfolding passed_line behind_run behind_ends
+  line_tails {all} t u = ends (from_shown h ds) (from_last h (from_shown h ds)) refl refl
+    where
+      ends : (first last : List Cell) → from_shown h ds ≡ first → from_last h first ≡ last → LeftTails all (line_left (behind_ends h n first last))
+      ends [] last f l = tt
+      ends (c ∷ more) [] f l = tt
+      ends (c ∷ more) (d ∷ rest) f l = go (same_note n (note_of_run h.delta c d))
+        where
+          behind : Tail all rest
+          behind = tail_of_tail (subst (Tail all) l (tail_of_tail (subst (Tail all) f (tail_of_tail u (shown_tail h ds))) (last_tail h (c ∷ more)))) (there here)
+
+          go : (p : Bool) → LeftTails all (line_left (elim p [ true ↦ Some rest | false ↦ None ]))
+          go true = (fewer_tail behind t, behind)
+          go false = tt
+
+  pub passed_stands : 0 < h.delta → {all : List Cell} → Tested h.delta all → Tail all cs → Tail all ds → All Long ns → Pairs Follow (n ∷ ns)
+      → standing h (n ∷ ns) cs ds ≡ left_stands h ns (passed h n cs ds)
+  unfolding passed
+  passed_stands z tested t u v a = go (inside h.delta n) refl
+    where
+      go : (b : Bool) → inside h.delta n ≡ b → standing h (n ∷ ns) cs ds ≡ left_stands h ns (elim b [ true ↦ passed_inner h n cs ds | false ↦ passed_line h n cs ds ])
+      go true i = inner_stands i
+      go false i = line_stands z tested t u v a i
+
+  pub passed_tails : {all : List Cell} → Tail all cs → Tail all ds → LeftTails all (passed h n cs ds)
+  unfolding passed
+  passed_tails {all} t u = go (inside h.delta n)
+    where
+      go : (b : Bool) → LeftTails all (elim b [ true ↦ passed_inner h n cs ds | false ↦ passed_line h n cs ds ])
+      go true = inner_tails t u
+      go false = line_tails t u
 
 -- ---- the notes one after the other
 
--- a note in order starts at a tick of a take
-pub start-within : (δ beats : ℕ) (m n : Note) → beats ≤ max_beats → {p : Bool} → p ≡ note_ok δ beats n && follows m n → not p ≡ false → n.start ≤ max_beats * δ
-start-within δ beats m n most {p} o t =
-    let r = fair δ beats n (and_left (note_ok δ beats n) (follows m n) (sym o ∙ not-false p t)) in
-    omega (arith, r.order, r.fits, mul-le-mul_right δ most)
+-- what is asked behind a test may use that the test passed
+late : (a x y : Bool) → (a ≡ true → x ≡ y) → a && x ≡ a && y
+late true x y e = e refl
+late false x y e = refl
 
-reorder : (f o q r s : Bool) → (f && (o && q && r)) && s ≡ (o && f) && (q && r && s)
+reorder : (f o q r s : Bool) → (f && (o && q && r)) && s ≡ (o && f) && ((q && r) && s)
 reorder true true q r s = refl
 reorder true false q r s = refl
 reorder false true q r s = refl
 reorder false false q r s = refl
 
-right-behind : (a p s : Bool) → p ≡ true → a && (p && s) ≡ a && s
-right-behind a p s e = rw e
+module _ (h : Header) (beats : ℕ) (z : 0 < h.delta) {all : List Cell} (tested : Tested h.delta all) where
+  all_pass_law : (ns : List Note) (m : Note) (cs ds : List Cell) → Tail all cs → Tail all ds
+      → all_pass h beats m ns cs ds ≡ (first_follows m ns && notes_ok h.delta beats ns) && standing h ns cs ds
+  unfolding all_pass first_follows notes_ok standing
+  all_pass_law [] m cs ds t u = refl
+  all_pass_law (n ∷ ns) m cs ds t u =
+      ap (λ (b : Bool). ok && b) (behind (all_pass_law ns n) (passed h n cs ds) (passed_tails h n ns cs ds t u)) ∙ sym right
+    where
+      ok : Bool
+      ok = note_ok h.delta beats n && follows m n
 
-wrong_behind : (a p s : Bool) → p ≡ false → a && (p && s) ≡ false
-wrong_behind a p s e = rw e (and-false a)
+      later : Bool
+      later = first_follows n ns && notes_ok h.delta beats ns
 
-module _ (h : Header) (beats : ℕ) (ws : List ℕ) (to end notes cells : ℕ) where
-  abbrev rest : ℕ → List Note
-  rest k = last_notes ws to k
+      behind : ((es fs : List Cell) → Tail all es → Tail all fs → all_pass h beats n ns es fs ≡ later && standing h ns es fs)
+          → (r : Option (List Cell × List Cell)) → LeftTails all r → elim r [ None ↦ false | Some l ↦ all_pass h beats n ns l.0 l.1 ] ≡ later && left_stands h ns r
+      behind ih None b = sym (and-false later)
+      behind ih (Some l) b = ih l.0 l.1 b.0 b.1
 
-  abbrev beside_of : ℕ → ℕ → ℕ → Bool
-  beside_of k b l = standing h (rest k) (last_cells ws end b) (last_cells ws end l)
+      in_order : ok ≡ true → later ≡ true → notes_ok h.delta beats (n ∷ ns) ≡ true
+      in_order o y = and_yes (and_yes (and_left (note_ok h.delta beats n) (follows m n) o) (and_left (first_follows n ns) _ y)) (and_right (first_follows n ns) _ y)
 
-  -- m stands ahead of the last `left` notes, and what is asked of them, beside the cells that are left, is all that is left to ask
-  pub record Asking (m : Note) (left beside line : ℕ) : Type 0 where
-    pub asked
-        : notes_asked h beats (rest notes) (last_cells ws end cells)
-        ≡ (first_follows m (rest left) && notes_ok h.delta beats (rest left) && beside_of left beside line)
-    pub notes_left_lem : left ≤ notes
-    pub beside_left : beside ≤ cells
-    pub line-left : line ≤ cells
-    pub tested : Tested h.delta (last_cells ws end cells)
+      stands : ok ≡ true → later ≡ true → standing h (n ∷ ns) cs ds ≡ left_stands h ns (passed h n cs ds)
+      stands o y = passed_stands h n ns cs ds z tested t u (long_notes h.delta beats ns (and_right (first_follows n ns) _ y)) (ok_pairs h.delta beats (n ∷ ns) (in_order o y))
 
-  pub asking_all : {m : Note} → m ≡ before_all → every (cell_ok h.delta beats) (last_cells ws end cells) && cells_sound h.delta (last_cells ws end cells) ≡ true
-      → Asking m notes cells cells
-  unfolding notes_asked
-  asking_all e passed = record {
-    asked = rw (e, first_follows_lem (rest notes));
-    notes_left_lem = omega arith;
-    beside_left = omega arith;
-    line-left = omega arith;
-    tested = tested_all h.delta beats (last_cells ws end cells) passed;
-  }
+      right : (first_follows m (n ∷ ns) && notes_ok h.delta beats (n ∷ ns)) && standing h (n ∷ ns) cs ds ≡ ok && (later && left_stands h ns (passed h n cs ds))
+      right =
+          reorder (follows m n) (note_ok h.delta beats n) (first_follows n ns) (notes_ok h.delta beats ns) (standing h (n ∷ ns) cs ds)
+          ∙ late ok _ _ (λ o. late later _ _ (λ y. stands o y))
 
-  module _ {m : Note} {left beside line : ℕ} (a : Asking m left beside line) where
-    pub asked-all : left ≤ 0 → {p : Bool} → p ≡ given_by h [] (last_cells ws end line) → p ≡ notes_asked h beats (rest notes) (last_cells ws end cells)
-    unfolding first_follows notes_ok standing
-    asked-all z e = e ∙ sym (a.asked ∙ rw (nothing left z))
-      where
-        nothing : (k : ℕ) → k ≤ 0 → rest k ≡ []
-        nothing zero z = no_notes ws to
-        nothing (suc k) z = absurd (omega arith)
+-- what is asked of the notes of a shelf whose cells passed
+pub notes_pass : (h : Header) (beats : ℕ) → 0 < h.delta → (ns : List Note) (cs : List Cell) → every (cell_ok h.delta beats) cs && cells_sound h.delta cs ≡ true
+    → all_pass h beats before_all ns cs cs ≡ notes_asked h beats ns cs
+unfolding notes_asked
+notes_pass h beats z ns cs passed =
+    all_pass_law h beats z (tested_all h.delta beats cs passed) ns before_all cs cs here here ∙ rw (first_follows_lem ns)
 
-    module _ (some : 0 < left) (fits : 4 * left ≤ to) {n : Note} (is : n ≡ note_at ws (to - 4 * left)) {p : Bool} (o : p ≡ note_ok h.delta beats n && follows m n) where
-      there : rest left ≡ n ∷ rest (left - 1)
-      there = rw is (last_notes_lem ws to left some fits)
+-- a note in order starts at a tick of a take
+pub start-within : (δ beats : ℕ) (m n : Note) → beats ≤ max_beats → {p : Bool} → p ≡ note_ok δ beats n && follows m n → p ≡ true → n.start ≤ max_beats * δ
+start-within δ beats m n most {p} o t =
+    let r = fair δ beats n (and_left (note_ok δ beats n) (follows m n) (sym o ∙ t)) in
+    omega (arith, r.order, r.fits, mul-le-mul_right δ most)
 
-      one : notes_asked h beats (rest notes) (last_cells ws end cells)
-          ≡ p && (first_follows n (rest (left - 1)) && notes_ok h.delta beats (rest (left - 1)) && standing h (n ∷ rest (left - 1)) (last_cells ws end beside) (last_cells ws end line))
-      unfolding first_follows notes_ok
-      one =
-          a.asked
-          ∙ rw (there, o) (reorder (follows m n) (note_ok h.delta beats n) (first_follows n (rest (left - 1))) (notes_ok h.delta beats (rest (left - 1)))
-          (standing h (n ∷ rest (left - 1)) (last_cells ws end beside) (last_cells ws end line)))
+-- one note more, and its way out
+module _ (h : Header) (beats : ℕ) (m n : Note) {rest behind : List Note} (is : rest ≡ n ∷ behind) (cs ds : List Cell) {p : Bool} (o : p ≡ note_ok h.delta beats n && follows m n) where
+  pub not_in_order : p ≡ false → all_pass h beats m rest cs ds ≡ false
+  unfolding all_pass
+  not_in_order t = rw (is, all_pass, ← o, t)
 
-      pub not_in_order : not p ≡ true → false ≡ notes_asked h beats (rest notes) (last_cells ws end cells)
-      not_in_order t = sym (one ∙ rw (not-true p t))
+  module _ (t : p ≡ true) where
+    pub not_passed : passed h n cs ds ≡ None → all_pass h beats m rest cs ds ≡ false
+    unfolding all_pass
+    not_passed e = rw (is, all_pass, ← o, t, e)
 
-      module _ (t : not p ≡ false) {r : Passed} (s : Passes h ws end n beside line r) (room : 6 * cells ≤ end) where
-        follow_on : first_follows n (rest (left - 1)) && notes_ok h.delta beats (rest (left - 1)) ≡ true → notes_ok h.delta beats (n ∷ rest (left - 1)) ≡ true
-        unfolding notes_ok
-        follow_on y =
-            let ok = and_left (note_ok h.delta beats n) (follows m n) (sym o ∙ not-false p t) in
-            and_yes (and_yes ok (and_left (first_follows n (rest (left - 1))) _ y)) (and_right (first_follows n (rest (left - 1))) _ y)
+    pub pass_next : {l : List Cell × List Cell} → passed h n cs ds ≡ Some l → all_pass h beats m rest cs ds ≡ all_pass h beats n behind l.0 l.1
+    unfolding all_pass
+    pass_next e = rw (is, all_pass, ← o, t, e)
 
-        two : notes_asked h beats (rest notes) (last_cells ws end cells)
-            ≡ (first_follows n (rest (left - 1)) && notes_ok h.delta beats (rest (left - 1))) && (r.right && beside_of (left - 1) r.beside r.line)
-        two =
-            one
-            ∙ rw (not-false p t) (late (first_follows n (rest (left - 1)) && notes_ok h.delta beats (rest (left - 1))) _ _ (λ y.
-            s.first (rest (left - 1)) (long_notes h.delta beats (rest (left - 1)) (and_right (first_follows n (rest (left - 1))) _ y))
-            (ok_pairs h.delta beats (n ∷ rest (left - 1)) (follow_on y))
-            (tested_from h ws end cells beside a.beside_left room a.tested) (tested_from h ws end cells line a.line-left room a.tested)))
-
-        pub not_right : not r.right ≡ true → false ≡ notes_asked h beats (rest notes) (last_cells ws end cells)
-        not_right w = sym (two ∙ wrong_behind (first_follows n (rest (left - 1)) && notes_ok h.delta beats (rest (left - 1))) r.right (beside_of (left - 1) r.beside r.line) (not-true r.right w))
-
-        pub asking_next : not r.right ≡ false → Asking n (left - 1) r.beside r.line
-        asking_next w = record {
-          asked = two ∙ right-behind (first_follows n (rest (left - 1)) && notes_ok h.delta beats (rest (left - 1))) r.right (beside_of (left - 1) r.beside r.line) (not-false r.right w);
-          notes_left_lem = omega (arith, a.notes_left_lem);
-          beside_left = omega (arith, a.beside_left, s.beside_left);
-          line-left = omega (arith, a.line-left, s.line-left);
-          tested = a.tested;
-        }
+pub pass_none : (h : Header) (beats : ℕ) (m : Note) {rest : List Note} → rest ≡ [] → (cs ds : List Cell) → all_pass h beats m rest cs ds ≡ given_by h [] ds
+unfolding all_pass
+pass_none h beats m is cs ds = rw is

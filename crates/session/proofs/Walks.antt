@@ -21,7 +21,7 @@ use Rattle.laws.specs.Sweep.{skip, clear_two, sweep}
 use Rattle.laws.specs.Walk.{linked, grown, walk_from}
 use Rattle.session.specs.Checking.{given_by, standing}
 use Rattle.session.specs.Running.{from_shown, from_last, note_of_run, same_note}
-use Rattle.session.proofs.Lasts.{link_yes, link_no}
+use Rattle.session.proofs.Tails.{link_yes, link_no}
 
 -- ---- one run
 

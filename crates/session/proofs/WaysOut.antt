@@ -2,34 +2,17 @@
 use mathlib.Core.Path.{◌≡◌, refl, sym, ◌∙◌}
 use mathlib.Core.Bool.{Bool, true, false, not, ◌&&◌, ◌||◌}
 use Prim.Native.Nat.{ℕ, suc, ◌+◌, ◌*◌, ◌-◌, ◌/◌, ◌≤◌, ◌<◌}
-use native.Mathlib.Nat.{mul-le-mul, div-mul-le_self, suc-mul}
+use native.Mathlib.Nat.{mul-le-mul, suc-mul}
 use native.Mathlib.Numerals.{add-one}
 use native.Mathlib.Omega.{arith}
 use lib.Dec.{leb, ltb, eqb}
-use borrow.Author.Tests.{
-  eq-eqb,
-  ne_eqb,
-  lt-ltb,
-  le-ltb,
-  lt-leb,
-  le-leb,
-  ltb-true,
-  ltb-false,
-  leb-true,
-  leb-false,
-  eqb-true,
-  eqb-false,
-  not-true,
-  not-false,
-}
-use Rattle.model.specs.Binding.{stands_alone, meet, bound, none_alone, fills, start_of, end_of}
+use borrow.Author.Tests.{eq-eqb, ne_eqb, lt-ltb, le-ltb, lt-leb, le-leb, ltb-true, ltb-false, leb-true, leb-false, eqb-true, eqb-false}
+use Rattle.model.specs.Binding.{fills, start_of, end_of}
 use Rattle.model.specs.Pieces.{first_beat, inside_at, inside}
-use Rattle.model.specs.Soundness.{cell_in_range, memory_within, has_ticks, cell_before, filled, partners}
-use Rattle.model.specs.declared.Header.{Header}
+use Rattle.model.specs.Soundness.{cell_before, filled, partners}
 use Rattle.model.specs.declared.Note.{Note}
 use Rattle.model.specs.declared.Cell.{Cell}
-use Rattle.laws.specs.Chain.{cell_ok, same_beat, neighbours, clear}
-use Rattle.session.specs.Running.{note_of_run, same_note}
+use Rattle.laws.specs.Chain.{same_beat, neighbours, clear}
 
 -- a product of 32-bit numbers, the first of them or one more, fits 64 bits with a 32-bit number added
 pub product_fits : (a b : ℕ) → a ≤ 4294967296 → b ≤ 4294967295 → a * b ≤ 18446744069414584320
@@ -56,60 +39,9 @@ module _ (l b m e : ℕ) (b-word : b ≤ 4294967295) (e-word : e ≤ 4294967295)
       go false f true g false h = let k : l ≡ m = eqb-true l m g in let j : e < b = leb-false b e h in lt-leb x y (omega arith)
       go false f false g r h = let k : m ≤ l = ltb-false l m f in let j : l ≡ m → ⊥ = eqb-false l m g in lt-leb x y (omega arith)
 
--- ---- a test of two or three parts
-
-module _ (a b : Bool) {p : Bool} where
-  pub first_no : p ≡ a → not p ≡ true → false ≡ a && b
-  first_no e t = rw (← e, not-true p t)
-
-  pub second_is : p ≡ a → not p ≡ false → {q : Bool} → q ≡ b → q ≡ a && b
-  second_is e t f = rw (← e, not-false p t, ← f)
-
-  pub second_not : p ≡ a → not p ≡ false → {q : Bool} → q ≡ b → not q ≡ a && not b
-  second_not e t f = rw (← e, not-false p t, ← f)
-
-module _ (δ beats : ℕ) (c : Cell) {p : Bool} (e : p ≡ cell_in_range beats c) where
-  pub range_no : not p ≡ true → false ≡ cell_ok δ beats c
-  unfolding cell_ok
-  range_no t = rw (← e, not-true p t)
-
-  module _ (t : not p ≡ false) {q : Bool} (f : q ≡ memory_within δ c) where
-    pub memory_no : not q ≡ true → false ≡ cell_ok δ beats c
-    unfolding cell_ok
-    memory_no u = rw (← e, not-false p t, ← f, not-true q u)
-
-    pub ticks_is : not q ≡ false → {r : Bool} → r ≡ has_ticks c → r ≡ cell_ok δ beats c
-    unfolding cell_ok
-    ticks_is u g = rw (← e, not-false p t, ← f, not-false q u, ← g)
-
 -- ---- two cells
 
 module _ (c d : Cell) where
-  pub by_beat : c.lane ≡ d.lane → c.side ≡ 1 → d.side ≡ 0 → eqb d.beat (c.beat + 1) ≡ meet c d
-  unfolding meet
-  by_beat e f g = rw (eq-eqb _ _ e, eq-eqb _ _ f, eq-eqb _ _ g, add-one)
-
-  module _ (h : Header) {p q : Bool} (e : p ≡ stands_alone h c) (f : q ≡ stands_alone h d) where
-    pub both_end : p ≡ true → q ≡ true → c.after ≡ 0 → false ≡ bound h c d
-    unfolding bound
-    both_end s t a = rw (← e, ← f, s, t, a)
-
-    pub both_go : p ≡ true → q ≡ true → (c.after ≡ 0 → ⊥) → ltb 0 d.before ≡ bound h c d
-    unfolding bound
-    both_go s t a = let l : 0 < c.after = omega arith in rw (← e, ← f, s, t, lt-ltb _ _ l)
-
-    pub one_left : p ≡ true → q ≡ false → true ≡ bound h c d
-    unfolding bound
-    one_left s t = rw (← e, ← f, s, t)
-
-    pub one_right : p ≡ false → q ≡ true → true ≡ bound h c d
-    unfolding bound
-    one_right s t = rw (← e, ← f, s, t)
-
-    pub neither : p ≡ false → q ≡ false → {r : Bool} → r ≡ none_alone h c d → r ≡ bound h c d
-    unfolding bound
-    neither s t g = g ∙ rw (← e, ← f, s, t)
-
   module _ (δ : ℕ) (c-word : c.beat ≤ 4294967295) (d-word : d.beat ≤ 4294967295)
       {x y : ℕ} (x-is : x ≡ c.lane * 4294967296 + c.beat) (y-is : y ≡ d.lane * 4294967296 + d.beat) where
     in_order : x < y → cell_before c d ≡ true
@@ -154,38 +86,6 @@ module _ (c d : Cell) where
             rw (no, f, le-ltb c.beat d.beat (omega arith), ne_eqb c.beat d.beat (λ z. omega arith))
         go false f = rw (no, f)
 
-  -- two cells of which neither is of a piece that fills its beat
-  module _ (δ : ℕ) {p : Bool} (e : p ≡ fills δ c) where
-    pub one-fills : p ≡ true → false ≡ not (fills δ c || filled δ d)
-    one-fills t = rw (← e, t)
-
-    pub by_filled : p ≡ false → {q : Bool} → q ≡ filled δ d → not q ≡ not (fills δ c || filled δ d)
-    by_filled t f = rw (← e, t, ← f)
-
-  module _ (δ : ℕ) (l : c.lane ≡ d.lane) (b : c.beat ≡ d.beat) where
-    by_side : cell_before c d ≡ ltb c.side d.side
-    unfolding cell_before
-    by_side =
-        rw (le-ltb c.lane d.lane (omega arith), eq-eqb c.lane d.lane l, le-ltb c.beat d.beat (omega arith), eq-eqb c.beat d.beat b)
-
-    pub side_no : d.side ≤ c.side → false ≡ neighbours δ c d
-    unfolding neighbours
-    side_no t = rw (by_side, le-ltb _ _ t)
-
-    module _ (t : c.side < d.side) {q : Bool} (f : q ≡ fills δ c) where
-      pub first-fills : q ≡ true → {s : Bool} → s ≡ partners δ c d → s ≡ neighbours δ c d
-      unfolding neighbours
-      first-fills u g = rw (by_side, lt-ltb _ _ t, ← f, u, ← g)
-
-      module _ (u : q ≡ false) {r : Bool} (g : r ≡ filled δ d) where
-        pub second_filled : r ≡ true → {s : Bool} → s ≡ partners δ c d → s ≡ neighbours δ c d
-        unfolding neighbours
-        second_filled v k = rw (by_side, lt-ltb _ _ t, ← f, u, ← g, v, ← k)
-
-        pub by_gap : r ≡ false → leb (c.after + d.before) δ ≡ neighbours δ c d
-        unfolding neighbours same_beat
-        by_gap v = rw (by_side, lt-ltb _ _ t, ← f, u, ← g, v, eq-eqb c.lane d.lane l, eq-eqb c.beat d.beat b)
-
 -- ---- where a piece lies
 
 module _ (δ : ℕ) (c : Cell) where
@@ -193,21 +93,15 @@ module _ (δ : ℕ) (c : Cell) where
   unfolding start_of
   start_close e = rw (ne_eqb _ _ e, add-one)
 
-  pub start_zero : (c.side ≡ 0 → ⊥) → (c.beat + 1) * δ ≤ c.before → 0 ≡ start_of δ c
-  start_zero e h = let z : 0 ≡ (c.beat + 1) * δ - c.before = omega arith in z ∙ start_close e
-
   pub end_close : (c.side ≡ 0 → ⊥) → (c.beat + 1) * δ ≡ end_of δ c
   unfolding end_of
   end_close e = rw (ne_eqb _ _ e, add-one)
 
 module _ (δ : ℕ) (n : Note) where
   module _ {b : ℕ} (is : b ≡ first_beat δ n) where
-    pub beat_line : b * δ ≤ n.start
-    beat_line = rw is (div-mul-le_self n.start δ)
-
-    pub inside_not : n.start ≤ b * δ → false ≡ inside δ n
+    pub inside_not : n.start ≤ b * δ → ltb (b * δ) n.start ≡ inside δ n
     unfolding inside_at
-    inside_not l = rw (le-ltb _ _ (rw is at l))
+    inside_not l = le-ltb _ _ l ∙ sym (rw (le-ltb _ _ (rw is at l)))
 
     pub inside_end : b * δ < n.start → ltb n.end (b * δ + δ) ≡ inside δ n
     unfolding inside_at
@@ -217,6 +111,10 @@ module _ (δ : ℕ) (n : Note) where
 
   -- the note's beat is the cell's, or not
   module _ (c : Cell) {b : ℕ} (is : b ≡ first_beat δ n) where
+    pub other_lane : (n.lane ≡ c.lane → ⊥) → true ≡ clear δ n c
+    unfolding clear
+    other_lane l = rw (ne_eqb n.lane c.lane l)
+
     pub other_beat : n.lane ≡ c.lane → (b ≡ c.beat → ⊥) → true ≡ clear δ n c
     unfolding clear
     other_beat l o = rw (eq-eqb _ _ l, ne_eqb (first_beat δ n) c.beat (λ e. o (is ∙ e)))
@@ -230,20 +128,3 @@ module _ (δ : ℕ) (n : Note) where
     closing-clear l o s =
         let e : c.beat * δ + δ ≡ suc c.beat * δ = omega (arith, suc-mul c.beat δ) in
         rw (eq-eqb _ _ l, eq-eqb (first_beat δ n) c.beat (sym is ∙ o), ne_eqb _ _ s, o, e)
-
--- ---- the note of a run
-
-module _ (δ : ℕ) (n : Note) (c d : Cell) {s : ℕ} (at : s ≡ start_of δ c) where
-  pub other_start : n.lane ≡ c.lane → (n.start ≡ s → ⊥) → false ≡ same_note n (note_of_run δ c d)
-  unfolding same_note note_of_run
-  other_start l o = rw (eq-eqb _ _ l, ne_eqb n.start (start_of δ c) (λ k. o (k ∙ sym at)))
-
-  module _ {e : ℕ} (to : e ≡ end_of δ d) where
-    pub other_end : n.lane ≡ c.lane → n.start ≡ s → (n.end ≡ e → ⊥) → false ≡ same_note n (note_of_run δ c d)
-    unfolding same_note note_of_run
-    other_end l k o =
-        rw (eq-eqb _ _ l, eq-eqb n.start (start_of δ c) (k ∙ at), ne_eqb n.end (end_of δ d) (λ k. o (k ∙ sym to)))
-
-    pub by_velocity : n.lane ≡ c.lane → n.start ≡ s → n.end ≡ e → eqb n.velocity c.velocity ≡ same_note n (note_of_run δ c d)
-    unfolding same_note note_of_run
-    by_velocity l k m = rw (eq-eqb _ _ l, eq-eqb n.start (start_of δ c) (k ∙ at), eq-eqb n.end (end_of δ d) (m ∙ to))

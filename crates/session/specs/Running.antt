@@ -1,22 +1,15 @@
 -- The notes that cells give, run by run: where a run starts, where it ends, and its note. Assumes nothing.
-use Rattle.std.specs.Prelude.{Bool, true, false, ◌&&◌, ◌||◌, List, [], ◌∷◌, ℕ, eqb}
+use Rattle.std.specs.Prelude.{Bool, true, false, ◌&&◌, ◌||◌, List, [], ◌∷◌, ℕ, eqb, Option, Some, None}
 use Rattle.model.specs.Binding.{stands_alone, start_of, end_of}
 use Rattle.model.specs.declared.Header.{Header}
 use Rattle.model.specs.declared.Note.{Note}
 use Rattle.model.specs.declared.Cell.{Cell}
 use Rattle.laws.specs.Walk.{linked}
 
--- The first cell's piece goes on in the next cell.
-unfoldable pub first_linked : Header → List Cell → Bool
-unfolding linked
-first_linked h [] = false
-first_linked h (c ∷ cs) = linked h c cs
-
--- The first cell's piece is shown, where none before it is linked to it.
-unfoldable pub first_shown : Header → List Cell → Bool
-unfolding stands_alone linked
-first_shown h [] = false
-first_shown h (c ∷ cs) = stands_alone h c || linked h c cs
+-- The cells from the first one on at which a test of a cell and those behind it holds.
+abbrev pub from_first : (Cell → List Cell → Bool) → List Cell → List Cell
+from_first p [] = []
+from_first p (c ∷ cs) = elim (p c cs) [ true ↦ c ∷ cs | false ↦ from_first p cs ]
 
 -- The cells from the first whose piece is shown.
 unfoldable pub from_shown : Header → List Cell → List Cell
@@ -38,3 +31,15 @@ note_of_run δ c d = record { lane = c.lane; start = start_of δ c; end = end_of
 -- The same note.
 unfoldable pub same_note : Note → Note → Bool
 same_note m n = eqb m.lane n.lane && eqb m.start n.start && eqb m.end n.end && eqb m.velocity n.velocity
+
+-- The cells behind a run that goes from the first of the cells cs to the first of the cells ds, if n is its note.
+unfoldable pub behind_ends : Header → Note → List Cell → List Cell → Option (List Cell)
+unfolding note_of_run same_note
+behind_ends h n [] ds = None
+behind_ends h n (c ∷ cs) [] = None
+behind_ends h n (c ∷ cs) (d ∷ ds) = elim (same_note n (note_of_run h.delta c d)) [ true ↦ Some ds | false ↦ None ]
+
+-- The cells behind the first run, if n is its note.
+unfoldable pub behind_run : Header → Note → List Cell → Option (List Cell)
+unfolding from_shown from_last behind_ends
+behind_run h n cs = behind_ends h n (from_shown h cs) (from_last h (from_shown h cs))

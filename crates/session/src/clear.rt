@@ -4,8 +4,10 @@ ghost use Rattle.model.specs.Pieces.{first_beat};
 ghost use Rattle.laws.specs.Chain.{clear};
 ghost use Rattle.laws.specs.Sweep.{earlier, skip, clear_two};
 ghost use Rattle.session.specs.Reading.{last_cells};
+ghost use Rattle.session.specs.Sliced.{cells_of};
 
-use crate::{notes, rules};
+use crate::rules;
+use crate::slices::Cells;
 use model::{Cell, Note};
 
 // Does the cell lie before the beat of the lane?
@@ -15,21 +17,23 @@ fn is_earlier(lane: u32, beat: u32, c: Cell) -> bool
     rules::lane_order(c.lane, c.beat) < rules::lane_order(lane, beat)
 }
 
-// The search for the first cell that does not lie before the beat of the lane, among the last `left` cells up to place `end`.
-// It answers how many are left from that cell on: a later search goes on from there.
+// The cells from beat `beat` of the lane on.
+pub fn from_beat(cells: Cells, lane: u32, beat: u32) -> Cells
+    ensures { cells_of result ≡ skip lane beat (cells_of cells.entry) }
+{
+    cells.from_first(|c, _| !is_earlier(lane, beat, c))
+}
+
+// The same among the last `left` cells up to place `end`: how many are left from that cell on. A later search goes on from there.
 pub fn cells_from(part: &[u32], end: usize, left: usize, lane: u32, beat: u32) -> usize
     requires { (6 * left ≤ end) × (end ≤ length part.now) }
     ensures { (last_cells part.now end result ≡ skip lane beat (last_cells part.now end left)) × (result ≤ left) }
 {
-    let mut at = left;
-    while 0 < at {
-        let c = notes::cell_at(part, end - 6 * at);
-        if !is_earlier(lane, beat, c) {
-            return at;
-        }
-        at -= 1;
-    }
-    0
+    let cells = Cells {
+        words: &part[end - 6 * left..end],
+    };
+    let found = from_beat(cells, lane, beat);
+    found.words.len() / 6
 }
 
 // Are the note, which starts in beat `beat`, and the cell's piece apart?
@@ -37,42 +41,27 @@ fn is_clear(delta: u32, beat: u32, n: Note, c: Cell) -> bool
     requires { (0 < delta) × (beat ≡ first_beat delta n) }
     ensures { result ≡ clear delta n c }
 {
-    if n.lane != c.lane {
-        return true;
-    }
-    if beat != c.beat {
+    if n.lane != c.lane || beat != c.beat {
         return true;
     }
     let line = (beat as u64) * (delta as u64);
     if c.side == 0 {
-        return line + (c.after as u64) <= (n.start as u64);
+        line + (c.after as u64) <= (n.start as u64)
+    } else {
+        (n.end as u64) + (c.before as u64) <= line + (delta as u64)
     }
-    (n.end as u64) + (c.before as u64) <= line + (delta as u64)
 }
 
-// Is the note clear of the first two of the last `left` cells? A beat of a lane has no more than two.
-pub fn is_clear_of_two(
-    delta: u32,
-    part: &[u32],
-    end: usize,
-    left: usize,
-    beat: u32,
-    n: Note,
-) -> bool
-    requires { (6 * left ≤ end) × (end ≤ length part.now) × (0 < delta) × (beat ≡ first_beat delta n) }
-    ensures { result ≡ clear_two delta n (last_cells part.now end left) }
+// Is the note clear of the first two cells? A beat of a lane has no more than two.
+pub fn is_clear_of_two(delta: u32, beat: u32, n: Note, cells: Cells) -> bool
+    requires { (0 < delta) × (beat ≡ first_beat delta n) }
+    ensures { result ≡ clear_two delta n (cells_of cells.entry) }
 {
-    if left == 0 {
+    let Some((c, behind)) = cells.split_first() else {
         return true;
-    }
-    let at = end - 6 * left;
-    let c = notes::cell_at(part, at);
-    if left == 1 {
+    };
+    let Some((d, _)) = behind.split_first() else {
         return is_clear(delta, beat, n, c);
-    }
-    if !is_clear(delta, beat, n, c) {
-        return false;
-    }
-    let d = notes::cell_at(part, at + 6);
-    is_clear(delta, beat, n, d)
+    };
+    is_clear(delta, beat, n, c) && is_clear(delta, beat, n, d)
 }

@@ -1,5 +1,6 @@
 // The layout of a shelf: its beats, the words that its counts give, and the zeros behind them.
-ghost use Rattle.std.specs.Prelude.{◌≡◌, ◌-◌, ◌≤◌, eqb, drop, length, take};
+ghost use Rattle.std.specs.List.{fold};
+ghost use Rattle.std.specs.Prelude.{◌≡◌, ◌≤◌, bit_or, eqb, length};
 ghost use Rattle.model.specs.Lists.{every};
 ghost use Rattle.model.specs.Soundness.{layout_ok};
 ghost use Rattle.model.specs.Takes.{words_used};
@@ -13,33 +14,25 @@ pub fn words_used(notes: u32, cells: u32) -> usize
     3 + 4 * (notes as usize) + 6 * (cells as usize)
 }
 
-// All words from place `from` up to `to`, joined by "or": 0 only if all are zeros.
-fn joined(part: &[u32], from: usize, to: usize) -> u32
-    requires { (from ≤ to) × (to ≤ length part.now) }
-    ensures { eqb result 0 ≡ every (eqb 0) (take (to - from) (drop from part.now)) }
+// All words joined by "or": 0 only if all are zeros.
+fn joined(words: &[u32]) -> u32
+    ensures { result ≡ fold bit_or 0 words.now }
 {
-    let mut all: u32 = 0;
-    let mut at = from;
-    while at < to {
-        all = all | part[at];
-        at += 1;
-    }
-    all
+    words.iter().fold(0, |all, word| all | *word)
 }
 
-// Are all words from place `from` on zeros? In blocks, so that many words are looked at in one step.
-fn zeros_from(part: &[u32], from: usize) -> bool
-    requires { from ≤ length part.now }
-    ensures { result ≡ every (eqb 0) (drop from part.now) }
+// Are all words zeros? In blocks, so that many words are looked at in one step.
+fn are_zeros(words: &[u32]) -> bool
+    ensures { result ≡ every (eqb 0) words.now }
 {
-    let mut at = from;
-    while 64 <= part.len() - at {
-        if joined(part, at, at + 64) != 0 {
+    let mut rest = words;
+    while let Some((block, behind)) = rest.split_first_chunk::<64>() {
+        if joined(block) != 0 {
             return false;
         }
-        at += 64;
+        rest = behind;
     }
-    joined(part, at, part.len()) == 0
+    joined(rest) == 0
 }
 
 // At most 4,096 beats; notes and cells within the shelf's words; zeros behind them.
@@ -54,5 +47,5 @@ pub fn layout_ok(part: &[u32]) -> bool
     if part.len() < used {
         return false;
     }
-    zeros_from(part, used)
+    are_zeros(&part[used..])
 }

@@ -14,4 +14,5 @@ pub mod room;
 pub mod rules;
 pub mod runs;
 pub mod shelf;
+pub mod slices;
 pub mod sound;

@@ -37,30 +37,23 @@ pub fn cell_at(s: &[u32], at: usize) -> Cell
 }
 
 // Is the word a velocity of the lane?
+#[tactic(auto, unfolding(model::specs::Limits::velocity_ok))]
 pub fn velocity_ok(lane: u32, word: u32) -> bool
     ensures { result ≡ velocity_ok lane word }
 {
-    if word < 1 {
-        return false;
-    }
-    word <= 127
+    1 <= word && word <= 127
 }
 
 // Is the note in range in a take of so many beats?
+#[tactic(auto, unfolding(model::specs::Soundness::note_ok))]
 pub fn note_ok(delta: u32, beats: u32, n: Note) -> bool
     requires { (delta ≤ max_delta) × (beats ≤ max_beats) }
     ensures { result ≡ note_ok delta beats n }
 {
-    if Header::LANES <= n.lane {
-        return false;
-    }
-    if n.end <= n.start {
-        return false;
-    }
-    if beats * delta < n.end {
-        return false;
-    }
-    velocity_ok(n.lane, n.velocity)
+    n.lane < Header::LANES
+        && n.start < n.end
+        && n.end <= beats * delta
+        && velocity_ok(n.lane, n.velocity)
 }
 
 // May n stand behind m: in a later lane, or in m's lane from m's end on? One comparison, since where a lane ends can't be foreseen.

@@ -15,113 +15,83 @@ pub fn lane_order(lane: u32, word: u32) -> u64
 }
 
 // Does the cell stand alone?
+#[tactic(auto, unfolding(model::specs::Binding::stands_alone))]
 pub fn stands_alone(h: Header, c: Cell) -> bool
     ensures { result ≡ stands_alone h c }
 {
     if c.side == 0 {
-        if h.epsilon <= c.after {
-            return true;
-        }
-        return c.before == 0;
+        h.epsilon <= c.after || c.before == 0
+    } else {
+        h.epsilon <= c.before || c.after == 0
     }
-    if h.epsilon <= c.before {
-        return true;
-    }
-    c.after == 0
 }
 
 // Do the cells meet: in one lane, a beat's closing line and the opening line of the next?
+#[tactic(auto, unfolding(model::specs::Binding::meet))]
 pub fn meets(c: Cell, d: Cell) -> bool
     ensures { result ≡ meet c d }
 {
-    if c.lane != d.lane {
-        return false;
-    }
-    if c.side != 1 {
-        return false;
-    }
-    if d.side != 0 {
-        return false;
-    }
-    (d.beat as u64) == (c.beat as u64) + 1
+    c.lane == d.lane && c.side == 1 && d.side == 0 && (d.beat as u64) == (c.beat as u64) + 1
 }
 
 // Are two cells that meet bound, if neither stands alone?
 fn is_bound_short(h: Header, c: Cell, d: Cell) -> bool
     ensures { result ≡ none_alone h c d }
 {
-    let enough = (h.epsilon as u64) <= (c.before as u64) + (d.after as u64);
-    if c.before != d.before {
-        return enough;
-    }
-    if c.after != d.after {
-        return enough;
-    }
-    true
+    c.before == d.before && c.after == d.after
+        || (h.epsilon as u64) <= (c.before as u64) + (d.after as u64)
 }
 
 // Are two cells that meet bound?
+#[tactic(auto, unfolding(model::specs::Binding::bound))]
 pub fn is_bound(h: Header, c: Cell, d: Cell) -> bool
     ensures { result ≡ bound h c d }
 {
-    if stands_alone(h, c) {
-        if stands_alone(h, d) {
-            if c.after == 0 {
-                return false;
-            }
-            return 0 < d.before;
-        }
-        return true;
+    match (stands_alone(h, c), stands_alone(h, d)) {
+        (true, true) => 0 < c.after && 0 < d.before,
+        (false, false) => is_bound_short(h, c, d),
+        _ => true,
     }
-    if stands_alone(h, d) {
-        return true;
-    }
-    is_bound_short(h, c, d)
 }
 
 // Is it the opening cell of a piece that fills its beat?
+#[tactic(auto, unfolding(model::specs::Binding::fills))]
 pub fn is_filling(delta: u32, c: Cell) -> bool
     ensures { result ≡ fills delta c }
 {
-    if c.side != 0 {
-        return false;
-    }
-    delta <= c.after
+    c.side == 0 && delta <= c.after
 }
 
 // Is it the closing cell of a piece that fills its beat?
+#[tactic(auto, unfolding(model::specs::Soundness::filled))]
 pub fn is_filled(delta: u32, d: Cell) -> bool
     ensures { result ≡ filled delta d }
 {
-    if d.side == 0 {
-        return false;
-    }
-    delta <= d.before
+    d.side != 0 && delta <= d.before
 }
 
 // The tick where the cell's piece starts; 0 if it remembers more ticks than the take has ahead of its line.
+#[tactic(auto, unfolding(model::specs::Binding::start_of))]
 pub fn start_of(delta: u32, c: Cell) -> u64
     ensures { result ≡ start_of delta c }
 {
     if c.side == 0 {
-        return (c.beat as u64) * (delta as u64);
+        (c.beat as u64) * (delta as u64)
+    } else {
+        (((c.beat as u64) + 1) * (delta as u64)).saturating_sub(c.before as u64)
     }
-    let line = ((c.beat as u64) + 1) * (delta as u64);
-    let before = c.before as u64;
-    if line <= before {
-        return 0;
-    }
-    line - before
 }
 
 // The tick where the cell's piece ends.
+#[tactic(auto, unfolding(model::specs::Binding::end_of))]
 pub fn end_of(delta: u32, c: Cell) -> u64
     ensures { result ≡ end_of delta c }
 {
     if c.side == 0 {
-        return (c.beat as u64) * (delta as u64) + (c.after as u64);
+        (c.beat as u64) * (delta as u64) + (c.after as u64)
+    } else {
+        ((c.beat as u64) + 1) * (delta as u64)
     }
-    ((c.beat as u64) + 1) * (delta as u64)
 }
 
 // Does the note, which starts in beat `beat`, touch no line?
@@ -130,8 +100,5 @@ pub fn is_inside(delta: u32, beat: u32, n: Note) -> bool
     ensures { result ≡ inside delta n }
 {
     let line = (beat as u64) * (delta as u64);
-    if (n.start as u64) <= line {
-        return false;
-    }
-    (n.end as u64) < line + (delta as u64)
+    line < (n.start as u64) && (n.end as u64) < line + (delta as u64)
 }

@@ -1,102 +1,77 @@
-// The notes that cells give: each is a run of pieces, each linked to the next. A place among the cells is the number of cells left,
-// up to place `end` of the words.
-ghost use Rattle.std.specs.Prelude.{◌≡◌, [], ◌*◌, ◌<◌, ◌≤◌, length};
+// The notes that cells give: each is a run of pieces, each linked to the next.
+ghost use Rattle.std.specs.Prelude.{◌≡◌, ◌||◌, []};
+ghost use Rattle.model.specs.Binding.{stands_alone};
+ghost use Rattle.laws.specs.Walk.{linked};
 ghost use Rattle.session.specs.Checking.{given_by};
-ghost use Rattle.session.specs.Reading.{last_cells};
-ghost use Rattle.session.specs.Running.{first_linked, first_shown, from_shown, from_last, note_of_run, same_note};
+ghost use Rattle.session.specs.Running.{from_shown, from_last, note_of_run, same_note, behind_run};
+ghost use Rattle.session.specs.Sliced.{cells_of, cells_of_option};
 
-use crate::{notes, rules};
+use crate::rules;
+use crate::slices::Cells;
 use model::{Cell, Header, Note};
 
-// Does the first cell's piece go on in the next cell: are they one piece, or bound?
-fn is_linked(h: Header, part: &[u32], end: usize, left: usize) -> bool
-    requires { (0 < left) × (6 * left ≤ end) × (end ≤ length part.now) }
-    ensures { result ≡ first_linked h (last_cells part.now end left) }
+// Does the cell's piece go on in the next cell: are they one piece, or bound?
+fn is_linked(h: Header, c: Cell, behind: Cells) -> bool
+    ensures { result ≡ linked h c (cells_of behind.entry) }
 {
-    let at = end - 6 * left;
-    let c = notes::cell_at(part, at);
     if c.side == 0 {
         return h.delta <= c.after;
     }
-    if left == 1 {
+    let Some((d, _)) = behind.split_first() else {
         return false;
-    }
-    let d = notes::cell_at(part, at + 6);
-    if !rules::meets(c, d) {
-        return false;
-    }
-    rules::is_bound(h, c, d)
+    };
+    rules::meets(c, d) && rules::is_bound(h, c, d)
 }
 
-// Is the first cell's piece shown, if no piece before it is linked to it?
-fn is_shown(h: Header, part: &[u32], end: usize, left: usize) -> bool
-    requires { (0 < left) × (6 * left ≤ end) × (end ≤ length part.now) }
-    ensures { result ≡ first_shown h (last_cells part.now end left) }
+// Is the cell's piece shown, if no piece before it is linked to it?
+fn is_shown(h: Header, c: Cell, behind: Cells) -> bool
+    ensures { result ≡ (stands_alone h c || linked h c (cells_of behind.entry)) }
 {
-    let c = notes::cell_at(part, end - 6 * left);
-    if rules::stands_alone(h, c) {
-        return true;
-    }
-    is_linked(h, part, end, left)
+    rules::stands_alone(h, c) || is_linked(h, c, behind)
 }
 
-// Passes hidden pieces: the first cell of the next run, or 0 if there is none.
-pub fn first_of_run(h: Header, part: &[u32], end: usize, left: usize) -> usize
-    requires { (6 * left ≤ end) × (end ≤ length part.now) }
-    ensures { (last_cells part.now end result ≡ from_shown h (last_cells part.now end left)) × (result ≤ left) }
+// Passes hidden pieces: the cells from the first of the next run on, or none.
+pub fn first_of_run(h: Header, cells: Cells) -> Cells
+    ensures { cells_of result ≡ from_shown h (cells_of cells.entry) }
 {
-    let mut at = left;
-    while 0 < at {
-        if is_shown(h, part, end, at) {
-            return at;
-        }
-        at -= 1;
-    }
-    0
+    cells.from_first(|c, behind| is_shown(h, c, behind))
 }
 
-// Passes linked cells: the last cell of the run, or 0 if the cells end with a linked one.
-pub fn last_of_run(h: Header, part: &[u32], end: usize, left: usize) -> usize
-    requires { (6 * left ≤ end) × (end ≤ length part.now) }
-    ensures { (last_cells part.now end result ≡ from_last h (last_cells part.now end left)) × (result ≤ left) }
+// Passes linked cells: the cells from the last of the run on, or none if the cells end with a linked one.
+pub fn last_of_run(h: Header, cells: Cells) -> Cells
+    ensures { cells_of result ≡ from_last h (cells_of cells.entry) }
 {
-    let mut at = left;
-    while 0 < at {
-        if !is_linked(h, part, end, at) {
-            return at;
-        }
-        at -= 1;
-    }
-    0
+    cells.from_first(|c, behind| !is_linked(h, c, behind))
 }
 
 // Is n the note of a run from the piece of cell c to the piece of cell d?
+#[tactic(auto, unfolding(crate::specs::Running::same_note, crate::specs::Running::note_of_run))]
 pub fn is_note_of_run(delta: u32, n: Note, c: Cell, d: Cell) -> bool
     ensures { result ≡ same_note n (note_of_run delta c d) }
 {
-    if n.lane != c.lane {
-        return false;
+    n.lane == c.lane
+        && (n.start as u64) == rules::start_of(delta, c)
+        && (n.end as u64) == rules::end_of(delta, d)
+        && n.velocity == c.velocity
+}
+
+// The cells behind the next run, if n is its note.
+pub fn behind_run(h: Header, n: Note, cells: Cells) -> Option<Cells>
+    ensures { cells_of_option result ≡ behind_run h n (cells_of cells.entry) }
+{
+    let first = first_of_run(h, cells);
+    let (c, _) = first.split_first()?;
+    let (d, behind) = last_of_run(h, first).split_first()?;
+    if !is_note_of_run(h.delta, n, c, d) {
+        return None;
     }
-    if (n.start as u64) != rules::start_of(delta, c) {
-        return false;
-    }
-    if (n.end as u64) != rules::end_of(delta, d) {
-        return false;
-    }
-    n.velocity == c.velocity
+    Some(behind)
 }
 
 // Do the cells give no note?
-pub fn gives_none(h: Header, part: &[u32], end: usize, left: usize) -> bool
-    requires { (6 * left ≤ end) × (end ≤ length part.now) }
-    ensures { result ≡ given_by h [] (last_cells part.now end left) }
+pub fn gives_none(h: Header, cells: Cells) -> bool
+    ensures { result ≡ given_by h [] (cells_of cells.entry) }
 {
-    let mut at = left;
-    while 0 < at {
-        if is_shown(h, part, end, at) {
-            return last_of_run(h, part, end, at) == 0;
-        }
-        at -= 1;
-    }
-    true
+    let last = last_of_run(h, first_of_run(h, cells));
+    last.split_first().is_none()
 }

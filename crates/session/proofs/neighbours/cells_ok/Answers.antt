@@ -1,25 +1,22 @@
--- `session::neighbours::cells_ok` meets its contract. The measure is how many cells are left.
-use mathlib.Core.Path.{ap}
-use mathlib.Core.Bool.{not}
+-- `session::neighbours::cells_ok` meets its contract. The cells behind a cell are in its iterator.
 use mathlib.Core.Path.{sym, ◌∙◌}
-use native.Mathlib.Omega.{arith}
-use Rattle.session.proofs.Chains.{none_ok, first_wrong, first-right, next_wrong, next_right, last_ok}
+use Rattle.session.proofs.Chains.{none_ok, first_wrong, first_right, next_wrong, next_right, last_ok}
 use Rattle.session.proofs.neighbours.cells_ok.Goals as goal
 
-pub returns-then-count-eq0 : goal.returns-then-count-eq0
-returns-then-count-eq0 c = none_ok _ _ _ _ c.if-count-eq0.true _
+pub returns-in_default : goal.returns-in_default
+returns-in_default c = none_ok _ _ c.in_default.ensures
 
 pub returns-then-not-first_ok : goal.returns-then-not-first_ok
-returns-then-not-first_ok c = first_wrong _ _ _ (omega arith) c.requires.0 c.cell_at-last.ensures _ _ c.first_ok.ensures (ap not c.if-not-first_ok.true)
+returns-then-not-first_ok c = first_wrong _ _ c.in-Some.ensures c.first_ok.ensures c.if-not-first_ok.true
 
-pub loop-left-init : goal.loop-left-init
-loop-left-init c = (first-right _ _ _ (omega arith) c.requires.0 c.cell_at-last.ensures _ _ c.first_ok.ensures (ap not c.if-not-first_ok.false), omega arith)
+pub loop-c-init : goal.loop-c-init
+loop-c-init c = (tt, tt, rw c.into_iter-c-iterator.ensures.into_iter_gives (first_right _ _ c.in-Some.ensures c.first_ok.ensures c.if-not-first_ok.false))
 
 pub returns-then-not-next_ok : goal.returns-then-not-next_ok
-returns-then-not-next_ok c = sym (c.loop-left.invariant.0 ∙ next_wrong _ _ _ c.loop-left-test.true (omega arith) c.cell_at-c.ensures _ _ _ c.next_ok.ensures (ap not c.if-not-next_ok.true))
+returns-then-not-next_ok c = sym (c.loop-c.invariant.2 ∙ next_wrong _ _ c.in-Some-c.ensures.steps _ c.next_ok.ensures c.if-not-next_ok.true)
 
-pub loop-left-preserved : goal.loop-left-preserved
-loop-left-preserved c = (c.loop-left.invariant.0 ∙ next_right _ _ _ c.loop-left-test.true (omega arith) c.cell_at-c.ensures _ _ _ c.next_ok.ensures (ap not c.if-not-next_ok.false), omega arith)
+pub loop-c-preserved : goal.loop-c-preserved
+loop-c-preserved c = (tt, tt, c.loop-c.invariant.2 ∙ next_right _ _ c.in-Some-c.ensures.steps _ c.next_ok.ensures c.if-not-next_ok.false)
 
 pub returns : goal.returns
-returns c = last_ok _ _ _ _ c.loop-left-test.false _ _ c.is_filling.ensures ∙ sym c.loop-left.invariant.0
+returns c = last_ok _ _ _ c.in-None.ensures.steps c.is_filling.ensures ∙ sym c.loop-c.invariant.2

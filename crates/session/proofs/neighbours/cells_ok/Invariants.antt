@@ -1,14 +1,12 @@
--- `session::neighbours::cells_ok` meets its contract. The measure is how many cells are left.
-use Rattle.laws.specs.Chain.{cell_ok, cells_chain, cells_sound}
-use Rattle.model.specs.Lists.{every}
-use Prim.Native.Nat.{◌<◌}
-use mathlib.Core.Bool.{◌&&◌}
+-- `session::neighbours::cells_ok` meets its contract. The cells behind a cell are in its iterator.
 use mathlib.Core.Path.{◌≡◌}
-use Rattle.session.specs.Reading.{last_cells}
+use Rattle.session.specs.Sliced.{cells_of}
+use mathlib.Core.Bool.{◌&&◌}
+use Rattle.model.specs.Lists.{every}
+use Rattle.laws.specs.Chain.{cell_ok, cells_chain, cells_sound}
 use Rattle.session.proofs.neighbours.cells_ok.Given as goal
 
-abbrev pub invariant-loop-left : goal.invariant-loop-left
-invariant-loop-left l = (every (cell_ok l.delta l.beats) (last_cells l.part l.end l.count) && cells_sound l.delta (last_cells l.part l.end l.count) ≡ every (cell_ok l.delta l.beats) (last_cells l.part l.end l.left) && cells_chain l.delta l.last (last_cells l.part l.end l.left)) × (l.left < l.count)
-
-abbrev pub decreases-loop-left : goal.decreases-loop-left
-decreases-loop-left l = l.left
+abbrev pub invariant-loop-c : goal.invariant-loop-c
+invariant-loop-c l =
+    (goal.iterator-loop-c).can_next l.c-iterator × (goal.iterator-loop-c).is_finite l.c-iterator
+    × (every (cell_ok l.delta l.beats) (cells_of l.cells) && cells_sound l.delta (cells_of l.cells) ≡ every (cell_ok l.delta l.beats) (cells_of l.c-iterator) && cells_chain l.delta l.last (cells_of l.c-iterator))

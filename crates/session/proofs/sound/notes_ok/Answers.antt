@@ -1,25 +1,29 @@
--- `session::sound::notes_ok` meets its contract. The measure is how many notes are left.
-use mathlib.Core.Path.{ap}
-use mathlib.Core.Bool.{not}
-use native.Mathlib.Omega.{arith}
-use Rattle.session.proofs.Standings.{start-within, asking_all, asked-all, not_in_order, not_right, asking_next}
-use borrow.Author.Rules.{rules}
+-- `session::sound::notes_ok` meets its contract. The notes behind a note are in its iterator.
+use mathlib.Core.Path.{refl, sym, ◌∙◌}
+use Rattle.session.specs.Sliced.{notes_of, cells_of}
+use Rattle.session.proofs.Standings.{notes_pass, start-within, not_in_order, not_passed, pass_next, pass_none}
 use Rattle.session.proofs.sound.notes_ok.Goals as goal
 
-pub loop-left-init : goal.loop-left-init
-loop-left-init c = asking_all _ _ _ _ _ _ _ c.before_all-last.ensures c.requires.4
-
 pub returns-then-not-in_order : goal.returns-then-not-in_order
-returns-then-not-in_order c = not_in_order _ _ _ _ _ _ _ c.loop-left.invariant c.loop-left-test.true (omega (arith, c.loop-left.invariant.notes_left_lem)) c.note_at-n.ensures c.in_order.ensures (ap not c.if-not-in_order.true)
+returns-then-not-in_order c =
+    sym (not_in_order _ _ _ _ c.in-Some.ensures.steps _ _ c.in_order.ensures c.if-not-in_order.true) ∙ c.loop-n.invariant.2
+    ∙ notes_pass c.args.h c.args.beats c.requires.0 (notes_of c.args.notes) (cells_of c.args.cells) c.requires.3
 
-pub pass-passed-requires : goal.pass-passed-requires
-pass-passed-requires c = search (start-within, rules)
+pub pass-requires : goal.pass-requires
+pass-requires c = (c.new-by.ensures, start-within _ _ _ _ c.requires.2 c.in_order.ensures c.if-not-in_order.false)
 
-pub returns-then-not-passed : goal.returns-then-not-passed
-returns-then-not-passed c = not_right _ _ _ _ _ _ _ c.loop-left.invariant c.loop-left-test.true (omega (arith, c.loop-left.invariant.notes_left_lem)) c.note_at-n.ensures c.in_order.ensures (ap not c.if-not-in_order.false) c.pass-passed.ensures (omega arith) c.if-not-passed.true
+pub returns-in_default : goal.returns-in_default
+returns-in_default c =
+    sym (not_passed _ _ _ _ c.in-Some.ensures.steps _ _ c.in_order.ensures c.if-not-in_order.false (sym c.in_default.ensures)) ∙ c.loop-n.invariant.2
+    ∙ notes_pass c.args.h c.args.beats c.requires.0 (notes_of c.args.notes) (cells_of c.args.cells) c.requires.3
 
-pub loop-left-preserved : goal.loop-left-preserved
-loop-left-preserved c = asking_next _ _ _ _ _ _ _ c.loop-left.invariant c.loop-left-test.true (omega (arith, c.loop-left.invariant.notes_left_lem)) c.note_at-n.ensures c.in_order.ensures (ap not c.if-not-in_order.false) c.pass-passed.ensures (omega arith) c.if-not-passed.false
+pub loop-n-init : goal.loop-n-init
+loop-n-init c = (tt, tt, rw (c.into_iter-n-iterator.ensures.into_iter_gives, c.before_all-last.ensures) refl)
+
+pub loop-n-preserved : goal.loop-n-preserved
+loop-n-preserved c = (tt, tt, sym (pass_next _ _ _ _ c.in-Some.ensures.steps _ _ c.in_order.ensures c.if-not-in_order.false (sym c.in-Some-pass.ensures)) ∙ c.loop-n.invariant.2)
 
 pub returns : goal.returns
-returns c = asked-all _ _ _ _ _ _ _ c.loop-left.invariant c.loop-left-test.false c.gives_none.ensures
+returns c =
+    c.gives_none.ensures ∙ sym (pass_none c.args.h c.args.beats c.loop-n.last c.in-None.ensures.steps (cells_of c.loop-n.left.beside) _) ∙ c.loop-n.invariant.2
+    ∙ notes_pass c.args.h c.args.beats c.requires.0 (notes_of c.args.notes) (cells_of c.args.cells) c.requires.3

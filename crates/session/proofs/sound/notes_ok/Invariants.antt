@@ -1,9 +1,11 @@
--- `session::sound::notes_ok` meets its contract. The measure is how many notes are left.
-use Rattle.session.proofs.Standings.{Asking}
+-- `session::sound::notes_ok` meets its contract. The notes behind a note are in its iterator.
+use mathlib.Core.Path.{◌≡◌}
+use Rattle.session.specs.Sliced.{notes_of, cells_of}
+use Rattle.session.specs.Checking.{before_all}
+use Rattle.session.specs.Passing.{all_pass}
 use Rattle.session.proofs.sound.notes_ok.Given as goal
 
-abbrev pub invariant-loop-left : goal.invariant-loop-left
-invariant-loop-left l = Asking l.h l.beats l.part l.notes_end l.end l.notes l.cells l.last l.left l.beside l.line
-
-abbrev pub decreases-loop-left : goal.decreases-loop-left
-decreases-loop-left l = l.left
+abbrev pub invariant-loop-n : goal.invariant-loop-n
+invariant-loop-n l =
+    (goal.iterator-loop-n).can_next l.n-iterator × (goal.iterator-loop-n).is_finite l.n-iterator
+    × (all_pass l.h l.beats l.last (notes_of l.n-iterator) (cells_of l.left.beside) (cells_of l.left.line) ≡ all_pass l.h l.beats before_all (notes_of l.notes) (cells_of l.cells) (cells_of l.cells))

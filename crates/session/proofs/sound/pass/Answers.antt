@@ -1,9 +1,9 @@
 -- `session::sound::pass` meets its contract.
-use mathlib.Core.Path.{sym, ◌∙◌}
+use Rattle.session.proofs.Passes.{by_inner, by_line}
 use Rattle.session.proofs.sound.pass.Goals as goal
 
-pub pass_inner-requires : goal.pass_inner-requires
-pass_inner-requires c = (c.requires.0, c.requires.2, c.requires.3, sym c.is_inside.ensures ∙ c.if-is_inside.true, c.beat_of-beat.ensures)
+pub returns-then-is_inside : goal.returns-then-is_inside
+returns-then-is_inside c = by_inner _ _ _ _ c.is_inside.ensures c.if-is_inside.true c.pass_inner.ensures
 
-pub pass_line-requires : goal.pass_line-requires
-pass_line-requires c = (c.requires.0, c.requires.1, c.requires.2, c.requires.3, sym c.is_inside.ensures ∙ c.if-is_inside.false)
+pub returns : goal.returns
+returns c = by_line _ _ _ _ c.is_inside.ensures c.if-is_inside.false c.pass_line.ensures

@@ -1,23 +1,11 @@
 -- `session::sound::pass_line` meets its contract.
-use native.Mathlib.Omega.{arith}
-use Rattle.session.proofs.Standings.{passes_none}
+use mathlib.Core.Path.{ap, ◌∙◌}
+use Rattle.session.specs.Beside.{left_of}
+use Rattle.session.proofs.Passes.{line_not, line_yes}
 use Rattle.session.proofs.sound.pass_line.Goals as goal
 
-pub returns-then-last-eq0 : goal.returns-then-last-eq0
-returns-then-last-eq0 c = passes_none _ _ _ _ _ _ c.first_of_run-first.ensures.0 c.last_of_run-last.ensures.0 _ c.requires.4 c.if-last-eq0.true
+pub returns-in_err-line : goal.returns-in_err-line
+returns-in_err-line c = ap left_of c.from_residual.ensures ∙ line_not _ _ _ _ c.in_err-line.ensures
 
-pub pass_run-requires : goal.pass_run-requires
-pass_run-requires c = (
-  c.requires.0,
-  c.requires.1,
-  c.requires.2,
-  c.requires.3,
-  c.requires.4,
-  record {
-    starts = c.first_of_run-first.ensures.0;
-    stops = c.last_of_run-last.ensures.0;
-    first-left = c.first_of_run-first.ensures.1;
-    last-left = c.last_of_run-last.ensures.1;
-  },
-  omega (arith, c.if-last-eq0.false),
-)
+pub returns : goal.returns
+returns c = line_yes _ _ _ _ c.in_ok-line.ensures c.or_fewer.ensures
