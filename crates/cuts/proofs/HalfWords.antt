@@ -95,11 +95,11 @@ module _ {s : List ℕ} {h : Header} {v : Half} {i j : ℕ} (a : HalfAsks s h v 
 
   -- the notes and cells of the shelf that is read are its take's
   pub record Read (from : Contents) : Type 0 where
-    pub middle_is : from.middle ≡ shelf_at h i + 3 + 4 * from.notes
-    pub end_is : from.end ≡ from.middle + 6 * from.cells
-    pub used_is : 3 + 4 * from.notes + 6 * from.cells ≤ h.words
-    pub notes_are : last_notes s from.middle from.notes ≡ notes_of h t
-    pub cells_are : last_cells s from.end from.cells ≡ t.cells
+    pub middle_is : from.notes.end ≡ shelf_at h i + 3 + 4 * from.notes.left
+    pub end_is : from.cells.end ≡ from.notes.end + 6 * from.cells.left
+    pub used_is : 3 + 4 * from.notes.left + 6 * from.cells.left ≤ h.words
+    pub notes_are : last_notes s from.notes.end from.notes.left ≡ notes_of h t
+    pub cells_are : last_cells s from.cells.end from.cells.left ≡ t.cells
 
   notes_in_lem : (N : ℕ) → N ≡ word ws 1 → 3 + 4 * N ≤ h.words → last_notes s (shelf_at h i + 3 + 4 * N) N ≡ notes_of h t
   unfolding last_notes
@@ -171,7 +171,7 @@ module _ {s : List ℕ} {h : Header} {v : Half} {i j : ℕ} (a : HalfAsks s h v 
   contents_asks e = rw e (omega (arith, source_inside, range.exact, mul-le-mul range.few_shelves range.small), omega (arith, source_inside, range.large))
 
   module _ {from : Contents} (r : Read from) where
-    pub notes_left_lem : notes_left h v s from from.notes from.cells ≡ notes_of h half
+    pub notes_left_lem : notes_left h v s from from.notes.left from.cells.left ≡ notes_of h half
     unfolding notes_left
     notes_left_lem = rw (r.notes_are, r.cells_are) half-notes
 
@@ -186,7 +186,7 @@ module _ {s : List ℕ} {h : Header} {v : Half} {i j : ℕ} (a : HalfAsks s h v 
           inside = omega (arith, r, source_inside);
           apart =
               apart-within to size
-              (apart_swap (apart-within (shelf_at h i) (from.end - shelf_at h i) (apart_swap (shelves_apart h i j a.differ)) (omega arith) (omega (arith, r))))
+              (apart_swap (apart-within (shelf_at h i) (from.cells.end - shelf_at h i) (apart_swap (shelves_apart h i j a.differ)) (omega arith) (omega (arith, r))))
               low high;
           room = omega (arith, target_inside);
         }

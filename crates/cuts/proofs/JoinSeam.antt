@@ -23,9 +23,10 @@ use Rattle.laws.specs.SeamWalk.{last_or, note_later}
 use Rattle.laws.specs.Sessions.{length-note_words}
 use Rattle.session.specs.Reading.{note_at, cell_at, last_notes, last_cells}
 use Rattle.session.proofs.Lasts.{no_notes, no_cells, last_notes_lem, last_cells_lem}
+use Rattle.std.specs.Prelude.{Some}
 use Rattle.cuts.specs.declared.halves.Contents.{Contents}
 use Rattle.cuts.specs.declared.seam.Seam.{Seam}
-use Rattle.cuts.specs.Seams.{Shiftable, later_run, NoteRunAsks, NoteRunPut, RunRead, OverAsks, lane_notes, lane_by, over_seam, lane_of}
+use Rattle.cuts.specs.Seams.{Shiftable, later_run, NoteRunAsks, NoteRunPut, RunRead, OverAsks, lane_by, over_seam, lane_of}
 use Rattle.cuts.proofs.Passes.{notes_agree}
 
 -- ---- the lane in front
@@ -156,13 +157,14 @@ module _ {s₀ : List ℕ} {to lane ticks end left₀ : ℕ} (a : NoteRunAsks s�
             let w = rw none at l.writes in
             record { words = writes-done w; rest = all ∙ l.rest; count = omega (arith, w.place, sized, l.place) }
 
-    pub run_end : left ≤ 0 → NoteRunPut s₀ to lane ticks end left₀ s left
-    run_end over =
+    pub run_end : {r : ℕ} → r ≡ 0 → left ≤ 0 → NoteRunPut s₀ to lane ticks end left₀ s r
+    run_end {r} none_left over =
         let z : left ≡ 0 = omega arith in
+        let is : r ≡ left = omega arith in
         let no : last_notes s₀ end left ≡ [] = ap (last_notes s₀ end) z ∙ no_notes s₀ end in
         let none : later_run lane ticks s₀ end left ≡ [] = ap (λ (ns : List Note). map (note_later ticks) (note_run lane ns)) no ∙ ap (map (note_later ticks)) (run_none (λ n. n.lane) lane) in
         let w = rw none at l.writes in
-        record { words = writes-done w; rest = no ∙ sym (rest-none (λ n. n.lane) lane) ∙ ap (note_rest lane) (sym no) ∙ l.rest; count = omega (arith, w.place, sized, l.place) }
+        rw is (record { words = writes-done w; rest = no ∙ sym (rest-none (λ n. n.lane) lane) ∙ ap (note_rest lane) (sym no) ∙ l.rest; count = omega (arith, w.place, sized, l.place) })
 
 -- ---- the cells of a lane
 
@@ -180,11 +182,11 @@ module _ (s : List ℕ) (end lane : ℕ) where
     pub cell-ahead : c.lane ≡ lane_ahead (λ c. c.lane) (last_cells s end k)
     cell-ahead = sym (ahead-first (λ c. c.lane) lane c (last_cells s end (k - 1))) ∙ ap (lane_ahead (λ c. c.lane)) (sym cells-first)
 
-  pub cells_end : (k : ℕ) → k ≤ 0 → last_cells s end k ≡ cell_rest lane (last_cells s end k)
-  cells_end k over =
+  pub cells_end : (k : ℕ) {r : ℕ} → r ≡ 0 → k ≤ 0 → last_cells s end r ≡ cell_rest lane (last_cells s end k)
+  cells_end k {r} none_left over =
       let z : k ≡ 0 = omega arith in
       let no : last_cells s end k ≡ [] = ap (last_cells s end) z ∙ no_cells s end in
-      no ∙ sym (rest-none (λ c. c.lane) lane) ∙ ap (cell_rest lane) (sym no)
+      ap (last_cells s end) none_left ∙ no_cells s end ∙ sym (rest-none (λ c. c.lane) lane) ∙ ap (cell_rest lane) (sym no)
 
 module _ (s : List ℕ) (end k : ℕ) where
   pub no_cell-ahead : k ≡ 0 → 2048 ≡ lane_ahead (λ c. c.lane) (last_cells s end k)
@@ -333,29 +335,34 @@ ending_low lane line before velocity less = let z : line - before ≡ 0 = omega 
 
 -- ---- the seam
 
-module _ {s : List ℕ} {h : Header} {line : ℕ} {c d : Cell} {first : Contents} {rest : ℕ} {second : Contents} (a : OverAsks s h line c d first rest second) where
-  pub over_end : {m : Note} → m ≡ from_on h d (lane_notes d.lane s second) → m.end + line ≤ 4294967295
+module _ {s : List ℕ} {h : Header} {line : ℕ} {c d : Cell} {end left rest other count : ℕ} (a : OverAsks s h line c d end left rest other count) where
+  abbrev ms : List Note
+  ms = note_run c.lane (last_notes s end left)
+
+  abbrev ns : List Note
+  ns = note_run d.lane (last_notes s other count)
+
+  pub over_end : {m : Note} → m ≡ from_on h d ns → m.end + line ≤ 4294967295
   over_end e = rw e a.end_word
 
-  pub over_is : {n m : Note} {b g : Bool} → n ≡ up_to h line c (lane_notes c.lane s first) → m ≡ from_on h d (lane_notes d.lane s second)
-      → b ≡ stands_alone h c → g ≡ stands_alone h d
-      → ◌≡◌ {A = Seam} (record { over = true; held = b; skipped = g; note = record { lane = n.lane; start = n.start; end = m.end + line; velocity = n.velocity } })
-      (over_seam h line c d (lane_notes c.lane s first) (lane_notes d.lane s second))
+  pub over_is : {n m : Note} {b g : Bool} → n ≡ up_to h line c ms → m ≡ from_on h d ns → b ≡ stands_alone h c → g ≡ stands_alone h d
+      → ◌≡◌ {A = Seam} (record { held = b; skipped = g; note = record { lane = n.lane; start = n.start; end = m.end + line; velocity = n.velocity } })
+      (over_seam h line c d ms ns)
   over_is e f x y = rw (e, f, x, y)
 
 -- the lane's notes where a note goes over the line
-pub over_lane : (h : Header) (line : ℕ) (c d : Cell) (ms ns : List Note) → join_over h line c d ms ns ≡ lane_by (over_seam h line c d ms ns) line ms ns
+pub over_lane : (h : Header) (line : ℕ) (c d : Cell) (xs ys : List Note) → join_over h line c d xs ys ≡ lane_by (Some (over_seam h line c d xs ys)) line xs ys
 unfolding join_over lane_by
-over_lane h line c d ms ns = refl
+over_lane h line c d xs ys = refl
 
 -- ---- the lane that is next
 
-pub lane_is : (s : List ℕ) (from : Contents) {a b r : ℕ} → a ≡ lane_ahead (λ n. n.lane) (last_notes s from.middle from.notes)
-    → b ≡ lane_ahead (λ c. c.lane) (last_cells s from.end from.cells) → r ≡ min a b → r ≡ lane_of s from
+pub lane_is : (s : List ℕ) (from : Contents) {a b r : ℕ} → a ≡ lane_ahead (λ n. n.lane) (last_notes s from.notes.end from.notes.left)
+    → b ≡ lane_ahead (λ c. c.lane) (last_cells s from.cells.end from.cells.left) → r ≡ min a b → r ≡ lane_of s from
 unfolding lane_of
 lane_is s from e f g = g ∙ rw (e, f)
 
 pub least_is : (s : List ℕ) (first second : Contents) {a b r : ℕ} → a ≡ lane_of s first → b ≡ lane_of s second → r ≡ min a b
-    → r ≡ least_lane (last_notes s first.middle first.notes) (last_cells s first.end first.cells) (last_notes s second.middle second.notes) (last_cells s second.end second.cells)
+    → r ≡ least_lane (last_notes s first.notes.end first.notes.left) (last_cells s first.cells.end first.cells.left) (last_notes s second.notes.end second.notes.left) (last_cells s second.cells.end second.cells.left)
 unfolding lane_of least_lane
 least_is s first second e f g = g ∙ rw (e, f)

@@ -64,10 +64,10 @@ module _ {s : List ℕ} {h : Header} {i j k : ℕ} (p : PutAsks s h i j k) where
       high : at + 3 + 4 * length (notes_of h both) ≤ shelf_at h k + h.words
       high = omega (arith, place, room)
 
-      first_still : last_cells s₁ first.end first.cells ≡ t.cells
+      first_still : last_cells s₁ first.cells.end first.cells.left ≡ t.cells
       first_still = cells_still (notes_of h both) (placed (first_read a) r s refl (at + 3) _ (omega (arith, place)) high) notes_put ∙ r.cells_are
 
-      second_still : last_cells s₁ second.end second.cells ≡ u.cells
+      second_still : last_cells s₁ second.cells.end second.cells.left ≡ u.cells
       second_still = cells_still (notes_of h both) (placed (second_read a) q s refl (at + 3) _ (omega (arith, place)) high) notes_put ∙ q.cells_are
 
       low_middle : shelf_at h k ≤ middle
@@ -79,7 +79,7 @@ module _ {s : List ℕ} {h : Header} {i j k : ℕ} (p : PutAsks s h i j k) where
       pub cells_asks : JoinedAsks s₁ middle x first second
       cells_asks = rw m (joined_asks a r q s₁ long first_still second_still middle low_middle high_cells)
 
-      module _ {s₂ : List ℕ} {end : ℕ} (made : Made s₁ middle (cells_joined x s₁ first second first.cells second.cells) s₂ end) where
+      module _ {s₂ : List ℕ} {end : ℕ} (made : Made s₁ middle (cells_joined x s₁ first second first.cells.left second.cells.left) s₂ end) where
         cells-put : Made s₁ middle both.cells s₂ end
         cells-put = joined_made a r q s₁ long first_still second_still middle low_middle high_cells (rw m at made)
 

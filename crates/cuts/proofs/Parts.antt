@@ -17,12 +17,22 @@ use Rattle.laws.specs.Sweep.{skip}
 use Rattle.laws.specs.Cutting.{note_back, first_cell, closing_cell}
 use Rattle.session.specs.Reading.{cell_at, last_cells}
 use Rattle.session.proofs.Lasts.{no_cells, cons}
+use Rattle.std.proofs.Math.Bridge.{le_prop}
+use Rattle.cuts.specs.declared.halves.Contents.{Contents}
 use Rattle.cuts.specs.declared.halves.Half.{Half}
-use Rattle.cuts.specs.Halving.{left_half, passed, line_cell, crossed_note, crossed_by, across_parts, note_part, Noted}
+use Rattle.cuts.specs.Halving.{contents_by, left_half, passed, line_cell, crossed_note, crossed_by, across_parts, note_part, Noted}
 
 -- the left half of a split at beat 0
 pub left-none : (δ k : ℕ) → k ≡ 0 → ◌≡◌ {A = Half} (record { right = false; beat = 0; line = 0; edge = 0; beats = 0 }) (left_half δ k)
 left-none δ k e = let z : 0 * δ ≡ 0 = omega arith in rw (e, z)
+
+-- the same notes and cells
+pub contents_same : (at N C : ℕ) (p : 4 * N ≤ at + 3 + 4 * N) (q : 6 * C ≤ at + 3 + 4 * N + 6 * C)
+    → ◌≡◌ {A = Contents} (record { notes = record { end = at + 3 + 4 * N; left = N; fits = p }; cells = record { end = at + 3 + 4 * N + 6 * C; left = C; fits = q } }) (contents_by at N C)
+contents_same at N C p q = λ i. record {
+  notes = record { end = at + 3 + 4 * N; left = N; fits = le_prop p (contents_by at N C).notes.fits i };
+  cells = record { end = at + 3 + 4 * N + 6 * C; left = C; fits = le_prop q (contents_by at N C).cells.fits i };
+}
 
 -- ---- nothing written, and one written
 

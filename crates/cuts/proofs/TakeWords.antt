@@ -25,11 +25,11 @@ use Rattle.cuts.proofs.Passes.{cells_agree}
 
 -- the cells of a shelf are as they were while notes are written elsewhere
 pub cells_still : {s s₁ : List ℕ} {from : Contents} {to middle : ℕ} (ns : List Note) → Placed s from to (4 * length ns) → Noted s to ns s₁ middle
-    → last_cells s₁ from.end from.cells ≡ last_cells s from.end from.cells
+    → last_cells s₁ from.cells.end from.cells.left ≡ last_cells s from.cells.end from.cells.left
 cells_still {s} {s₁} {from} {to} ns p noted =
-    let same : Same s₁ s p.low (from.end - p.low) = rw noted.words (splice_same s to (gather note_words ns) p.apart (omega (arith, length-note_words ns))) in
-    cells_agree s₁ s from.end from.end from.cells (omega (arith, p.cells_in)) (omega (arith, p.cells_in))
-    (λ k pos upto. same.at (from.end - k) (omega (arith, p.cells_in)) (omega (arith, p.cells_in)))
+    let same : Same s₁ s p.low (from.cells.end - p.low) = rw noted.words (splice_same s to (gather note_words ns) p.apart (omega (arith, length-note_words ns))) in
+    cells_agree s₁ s from.cells.end from.cells.end from.cells.left (omega (arith, p.cells_in)) (omega (arith, p.cells_in))
+    (λ k pos upto. same.at (from.cells.end - k) (omega (arith, p.cells_in)) (omega (arith, p.cells_in)))
 
 -- a take that fits has room
 pub take-room : (h : Header) (v : Take) → fits h v ≡ true → 3 + 4 * length (notes_of h v) + 6 * length v.cells ≤ h.words

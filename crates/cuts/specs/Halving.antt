@@ -1,6 +1,7 @@
 -- The halves of a split: what a half has of a take, note by note, and the shelf that is read.
 -- Assumes nothing.
 use Rattle.std.specs.Prelude.{◌≡◌, true, false, cond, List, [], ◌∷◌, ℕ, ◌+◌, ◌-◌, ◌*◌, ◌≤◌, ◌<◌, leb, length}
+use Rattle.std.proofs.Math.Nat.{le-add_left}
 use Rattle.std.proofs.Math.Option.{Option, none, some}
 use Rattle.words.specs.Apart.{Apart}
 use Rattle.words.specs.Splice.{splice}
@@ -87,7 +88,10 @@ max_session = header_words + max_shelves * max_words
 
 -- The notes and cells of a shelf at a place, by its counts N and C.
 abbrev pub contents_by : ℕ → ℕ → ℕ → Contents
-contents_by at N C = record { notes = N; middle = at + 3 + 4 * N; cells = C; end = at + 3 + 4 * N + 6 * C }
+contents_by at N C = record {
+  notes = record { end = at + 3 + 4 * N; left = N; fits = le-add_left (4 * N) (at + 3) };
+  cells = record { end = at + 3 + 4 * N + 6 * C; left = C; fits = le-add_left (6 * C) (at + 3 + 4 * N) };
+}
 
 unfoldable pub contents_at : List ℕ → ℕ → Contents
 contents_at s at = contents_by at (word s (at + 1)) (word s (at + 2))
@@ -95,7 +99,7 @@ contents_at s at = contents_by at (word s (at + 1)) (word s (at + 2))
 -- The parts of the last notes, where so many cells are left.
 unfoldable pub notes_left : Header → Half → List ℕ → Contents → ℕ → ℕ → List Note
 unfolding note_parts last_notes last_cells
-notes_left h v s from k left = note_parts h v (last_notes s from.middle k) (last_cells s from.end left)
+notes_left h v s from k left = note_parts h v (last_notes s from.notes.end k) (last_cells s from.cells.end left)
 
 -- ---- what is asked, and what is left
 
@@ -107,11 +111,11 @@ pub record Noted (s : List ℕ) (at : ℕ) (notes : List Note) (t : List ℕ) (r
 -- The notes and cells of a shelf stand in their places from `low` on, and apart from the words that are written.
 pub record Placed (s : List ℕ) (from : Contents) (to size : ℕ) : Type 0 where
   pub low : ℕ
-  pub notes_in_lem : low + 4 * from.notes ≤ from.middle
-  pub cells_in : low + 6 * from.cells ≤ from.end
-  pub order : from.middle ≤ from.end
-  pub inside : from.end ≤ length s
-  pub apart : Apart low (from.end - low) to size
+  pub notes_in_lem : low + 4 * from.notes.left ≤ from.notes.end
+  pub cells_in : low + 6 * from.cells.left ≤ from.cells.end
+  pub order : from.notes.end ≤ from.cells.end
+  pub inside : from.cells.end ≤ length s
+  pub apart : Apart low (from.cells.end - low) to size
   pub room : to + size ≤ length s
 
 -- A sound shelf, another shelf, and a half that the take in the first has.

@@ -8,23 +8,24 @@ ghost use Rattle.model.specs.Takes.{join_takes, words_of};
 ghost use Rattle.cuts.specs.Joined.{LowerAsks, Lowered, BeforeAsks, PutBefore, JoinedAsks, cells_joined, PutAsks};
 
 use crate::halves::Contents;
+use crate::lasts::Cells;
 use crate::{halves, lanes};
 use model::{Cell, Header};
 use session::{header, notes, shelf};
 
 // ---- cells
 
-// The second take's cells of lower lanes, so many beats later: those in front of the last `left` cells up to `end`. Returns how many are left.
-fn put_lower(s: &mut [u32], to: usize, lane: u32, beats: u32, end: usize, left: usize) -> usize
-    requires { LowerAsks s.old to lane beats end left }
-    ensures { Lowered s.old to lane beats end left s.new result }
+// The second take's cells of lower lanes, so many beats later: those in front of its last cells. Returns those that are left.
+fn put_lower(s: &mut [u32], to: usize, lane: u32, beats: u32, cells: Cells) -> Cells
+    requires { LowerAsks s.old to lane beats cells.end cells.left }
+    ensures put { Lowered s.old to lane beats cells.end cells.left s.new result.left }
+    ensures end_is { result.end ≡ cells.end }
 {
     let mut at = to;
-    let mut rest = left;
-    while 0 < rest {
-        let c = notes::cell_at(s, end - 6 * rest);
+    for rest in (1..=cells.left).rev() {
+        let c = notes::cell_at(s, cells.end - 6 * rest);
         if lane <= c.lane {
-            break;
+            return cells.keep(rest);
         }
         words::put_six(
             s,
@@ -37,18 +38,18 @@ fn put_lower(s: &mut [u32], to: usize, lane: u32, beats: u32, end: usize, left: 
             c.velocity,
         );
         at += 6;
-        rest -= 1;
     }
-    rest
+    cells.keep(0)
 }
 
-// A cell of the first take, and before it the second's of lower lanes. Returns how many of the second's are left.
-fn put_before(s: &mut [u32], to: usize, c: Cell, beats: u32, end: usize, left: usize) -> usize
-    requires { BeforeAsks s.old to c beats end left }
-    ensures { PutBefore s.old to c beats end left s.new result }
+// A cell of the first take, and before it the second's of lower lanes. Returns those of the second's that are left.
+fn put_before(s: &mut [u32], to: usize, c: Cell, beats: u32, cells: Cells) -> Cells
+    requires { BeforeAsks s.old to c beats cells.end cells.left }
+    ensures put { PutBefore s.old to c beats cells.end cells.left s.new result.left }
+    ensures end_is { result.end ≡ cells.end }
 {
-    let rest = put_lower(s, to, c.lane, beats, end, left);
-    let at = to + 6 * (left - rest);
+    let rest = put_lower(s, to, c.lane, beats, cells);
+    let at = to + 6 * (cells.left - rest.left);
     words::put_six(s, at, c.lane, c.beat, c.side, c.before, c.after, c.velocity);
     rest
 }
@@ -62,20 +63,18 @@ pub fn put_joined_cells(
     second: Contents,
 ) -> usize
     requires { JoinedAsks s.old to beats first second }
-    ensures { Made s.old to (cells_joined beats s.old first second first.cells second.cells) s.new result }
+    ensures { Made s.old to (cells_joined beats s.old first second first.cells.left second.cells.left) s.new result }
 {
     let mut at = to;
-    let mut left = first.cells;
     let mut rest = second.cells;
-    while 0 < left {
-        let c = notes::cell_at(s, first.end - 6 * left);
-        let next = put_before(s, at, c, beats, second.end, rest);
-        at += 6 * (rest - next) + 6;
+    for left in (1..=first.cells.left).rev() {
+        let c = notes::cell_at(s, first.cells.end - 6 * left);
+        let next = put_before(s, at, c, beats, rest);
+        at += 6 * (rest.left - next.left) + 6;
         rest = next;
-        left -= 1;
     }
-    let over = put_lower(s, at, 2048, beats, second.end, rest);
-    at + 6 * (rest - over)
+    let over = put_lower(s, at, 2048, beats, rest);
+    at + 6 * (rest.left - over.left)
 }
 
 // ---- the join

@@ -1,4 +1,4 @@
--- `cuts::halves::put_cells` meets its contract. The measure is how many cells are left.
+-- `cuts::halves::put_cells` meets its contract.
 use native.Mathlib.Omega.{arith}
 use Rattle.cuts.proofs.BothPasses.{celling_start, cell_place, cell_room, cell_asks, celling_cell, cells-done}
 use Rattle.cuts.proofs.halves.put_cells.Goals as goal
@@ -25,4 +25,4 @@ pub shape_of-s : goal.shape_of-s
 shape_of-s c = c.loop-left.invariant.writes.long
 
 pub returns : goal.returns
-returns c = cells-done c.requires c.loop-left.invariant c.loop-left-test.false
+returns c = cells-done c.requires c.loop-left.invariant (omega (arith, c.loop-left-test.false))

@@ -1,4 +1,4 @@
--- `cuts::halves::put_notes` meets its contract. The measure is how many notes are left.
+-- `cuts::halves::put_notes` meets its contract.
 use native.Mathlib.Omega.{arith}
 use Rattle.cuts.proofs.BothPasses.{noting_start, note-place, note-room, parts_asks, noting_note, notes-done}
 use Rattle.cuts.proofs.halves.put_notes.Goals as goal
@@ -25,4 +25,4 @@ pub shape_of-s : goal.shape_of-s
 shape_of-s c = c.loop-left.invariant.writes.long
 
 pub returns : goal.returns
-returns c = notes-done c.requires c.loop-left.invariant c.loop-left-test.false
+returns c = notes-done c.requires c.loop-left.invariant (omega (arith, c.loop-left-test.false))

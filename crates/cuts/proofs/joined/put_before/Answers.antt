@@ -7,10 +7,10 @@ pub put_lower-rest-requires : goal.put_lower-rest-requires
 put_lower-rest-requires c = lower_asks c.requires
 
 pub overflow_sub-at : goal.overflow_sub-at
-overflow_sub-at c = omega (arith, fewer c.requires c.put_lower-rest.ensures)
+overflow_sub-at c = omega (arith, fewer c.requires c.put_lower-rest.ensures.put)
 
 pub put_six-requires : goal.put_six-requires
-put_six-requires c = behind-lower c.requires c.put_lower-rest.ensures
+put_six-requires c = behind-lower c.requires c.put_lower-rest.ensures.put
 
-pub returns : goal.returns
-returns c = before-put c.requires c.put_lower-rest.ensures c.put_six.ensures
+pub returns-clause-put : goal.returns-clause-put
+returns-clause-put c = before-put c.requires c.put_lower-rest.ensures.put c.put_six.ensures

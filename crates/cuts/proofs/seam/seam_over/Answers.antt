@@ -7,7 +7,7 @@ pub up_to-n-requires : goal.up_to-n-requires
 up_to-n-requires c = c.requires.first_read
 
 pub from_on-m-requires : goal.from_on-m-requires
-from_on-m-requires c = (c.requires.second_in, c.requires.second_inside)
+from_on-m-requires c = c.requires.second_inside
 
 pub overflow_add-result : goal.overflow_add-result
 overflow_add-result c = omega (arith, over_end c.requires c.from_on-m.ensures)
