@@ -26,7 +26,7 @@ use Rattle.session.specs.Reading.{last_notes, last_cells}
 use Rattle.session.proofs.Sources.{shelf-inside}
 use Rattle.cuts.specs.declared.halves.Half.{Half}
 use Rattle.cuts.specs.declared.halves.Contents.{Contents}
-use Rattle.cuts.specs.Halving.{half_of, note_parts, contents_at, max_session, notes_left, Placed, HalfAsks}
+use Rattle.cuts.specs.Halving.{is_right, half_of, note_parts, contents_at, max_session, notes_left, Placed, HalfAsks}
 use Rattle.cuts.specs.BothHalves.{left_cell, right_cell}
 use Rattle.cuts.proofs.Passes.{notes_agree, cells_agree, parts-right, parts-left}
 use Rattle.cuts.proofs.TakeWords.{take-room}
@@ -57,11 +57,11 @@ keep-gather p (c ∷ cs) = go (p c) (keep-gather p cs)
     go false e = e
 
 module _ (δ : ℕ) (v : Half) (t : Take) where
-  pub left_cells_lem : v.right ≡ false → gather (left_cell v.beat) t.cells ≡ (half_of δ v t).cells
+  pub left_cells_lem : is_right v.side ≡ false → gather (left_cell v.beat) t.cells ≡ (half_of δ v t).cells
   unfolding half_of left_cell
   left_cells_lem e = sym (keep-gather (λ c. ltb c.beat v.beat) t.cells) ∙ sym (left_half-cells δ v.beat t) ∙ rw e
 
-  pub right_cells_lem : v.right ≡ true → gather (right_cell v.beat) t.cells ≡ (half_of δ v t).cells
+  pub right_cells_lem : is_right v.side ≡ true → gather (right_cell v.beat) t.cells ≡ (half_of δ v t).cells
   unfolding half_of right_cell
   right_cells_lem e = sym (right_half-cells δ v.beat t) ∙ rw e
 
@@ -139,9 +139,9 @@ module _ {s : List ℕ} {h : Header} {v : Half} {i j : ℕ} (a : HalfAsks s h v 
   -- what the half has, and that it fits
   half-notes : note_parts h v (notes_of h t) t.cells ≡ notes_of h half
   unfolding half_of
-  half-notes = go v.right refl
+  half-notes = go (is_right v.side) refl
     where
-      go : (b : Bool) → v.right ≡ b → note_parts h v (notes_of h t) t.cells ≡ notes_of h half
+      go : (b : Bool) → is_right v.side ≡ b → note_parts h v (notes_of h t) t.cells ≡ notes_of h half
       go true e =
           parts-right h v a.half e (notes_of h t) t.cells
           ∙ sym (right_pass h range.some-ticks range.kept-within t (sound_solid h range.some-ticks ws a.sound) v.beat)
@@ -153,12 +153,12 @@ module _ {s : List ℕ} {h : Header} {v : Half} {i j : ℕ} (a : HalfAsks s h v 
 
   pub half-fits : fits h half ≡ true
   unfolding half_of
-  half-fits = go v.right refl
+  half-fits = go (is_right v.side) refl
     where
       both : fits h (split_left h.delta v.beat t) && fits h (split_right h.delta v.beat t) ≡ true
       both = split_fits h range.some-ticks range.kept-within ws a.sound v.beat
 
-      go : (b : Bool) → v.right ≡ b → fits h half ≡ true
+      go : (b : Bool) → is_right v.side ≡ b → fits h half ≡ true
       go true e = rw e (and_right (fits h (split_left h.delta v.beat t)) (fits h (split_right h.delta v.beat t)) both)
       go false e = rw e (and_left (fits h (split_left h.delta v.beat t)) (fits h (split_right h.delta v.beat t)) both)
 

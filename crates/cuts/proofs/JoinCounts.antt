@@ -22,7 +22,8 @@ use Rattle.cuts.specs.declared.counting.SeamCount.{SeamCount}
 use Rattle.cuts.specs.declared.halves.Contents.{Contents}
 use Rattle.cuts.specs.declared.lasts.Last.{Last}
 use Rattle.cuts.specs.Counting.{count_of, pair_at, run_cells, RunAhead, RunAt, SeamsAsks}
-use Rattle.cuts.proofs.JoinSeam.{ahead-first, last-cell, nothing, run_go, run_stop}
+use Rattle.cuts.specs.Lasts.{lane_of_last}
+use Rattle.cuts.proofs.JoinSeam.{ahead-first, cell_lane, last-cell, nothing, run_go, run_stop}
 
 abbrev none : SeamCount
 none = record { pairs = 0; alone = 0 }
@@ -186,7 +187,13 @@ module _ {s : List ℕ} {h : Header} {beats : ℕ} {first second : Contents} (a 
         let q : alone ≡ lone h all = omega (arith, l.alone_are, ap (lone h) over-now) in
         rw (p, q)
 
-    module _ (more : 0 < left.left) {x y lane : ℕ} (e : x ≡ lane_ahead (λ c. c.lane) cs) (f : y ≡ lane_ahead (λ c. c.lane) ds) (least : lane ≡ min x y) where
+    module _ (more : 0 < left.left) {x y lane : ℕ} (x_is : x ≡ lane_of_last 6 s left.end left.left) (y_is : y ≡ lane_of_last 6 s over.end over.left) (least : lane ≡ min x y) where
+      e : x ≡ lane_ahead (λ c. c.lane) cs
+      e = x_is ∙ cell_lane s left.end left.left left.fits
+
+      f : y ≡ lane_ahead (λ c. c.lane) ds
+      f = y_is ∙ cell_lane s over.end over.left over.fits
+
       front : cs ≡ cell_at s (left.end - 6 * left.left) ∷ last_cells s left.end (left.left - 1)
       front = last_cells_lem s left.end left.left more left.fits
 

@@ -4,7 +4,7 @@ use mathlib.Core.Bool.{Bool, true, false, cond, true≢false}
 use mathlib.Core.List.{List, [], ◌∷◌, ◌++◌, map}
 use Prim.Native.Nat.{ℕ, zero, suc, ◌+◌, ◌-◌, ◌*◌, ◌≤◌, ◌<◌, min}
 use native.Mathlib.Omega.{arith}
-use borrow.Author.Tests.{eq-eqb, eqb-true, ne_eqb, leb-true, leb-false}
+use borrow.Author.Tests.{eq-eqb, eqb-true, eqb-false, ne_eqb, leb-true, leb-false}
 use lib.Dec.{leb, eqb}
 use lib.ListN.{length, length-append}
 use Rattle.words.specs.Splice.{splice}
@@ -26,6 +26,7 @@ use Rattle.session.proofs.Lasts.{no_notes, no_cells, last_notes_lem, last_cells_
 use Rattle.std.specs.Prelude.{Some}
 use Rattle.cuts.specs.declared.halves.Contents.{Contents}
 use Rattle.cuts.specs.declared.seam.Seam.{Seam}
+use Rattle.cuts.specs.Lasts.{lane_of_last}
 use Rattle.cuts.specs.Seams.{Shiftable, later_run, NoteRunAsks, NoteRunPut, RunRead, OverAsks, lane_by, over_seam, lane_of}
 use Rattle.cuts.proofs.Passes.{notes_agree}
 
@@ -179,7 +180,7 @@ module _ (s : List ℕ) (end lane : ℕ) where
     pub cells_stop : (c.lane ≡ lane → ⊥) → last_cells s end k ≡ cell_rest lane (last_cells s end k)
     cells_stop d = cells-first ∙ sym (rest_stop (λ c. c.lane) lane c (last_cells s end (k - 1)) d) ∙ ap (cell_rest lane) (sym cells-first)
 
-    pub cell-ahead : c.lane ≡ lane_ahead (λ c. c.lane) (last_cells s end k)
+    cell-ahead : c.lane ≡ lane_ahead (λ c. c.lane) (last_cells s end k)
     cell-ahead = sym (ahead-first (λ c. c.lane) lane c (last_cells s end (k - 1))) ∙ ap (lane_ahead (λ c. c.lane)) (sym cells-first)
 
   pub cells_end : (k : ℕ) {r : ℕ} → r ≡ 0 → k ≤ 0 → last_cells s end r ≡ cell_rest lane (last_cells s end k)
@@ -189,13 +190,13 @@ module _ (s : List ℕ) (end lane : ℕ) where
       ap (last_cells s end) none_left ∙ no_cells s end ∙ sym (rest-none (λ c. c.lane) lane) ∙ ap (cell_rest lane) (sym no)
 
 module _ (s : List ℕ) (end k : ℕ) where
-  pub no_cell-ahead : k ≡ 0 → 2048 ≡ lane_ahead (λ c. c.lane) (last_cells s end k)
+  no_cell-ahead : k ≡ 0 → 2048 ≡ lane_ahead (λ c. c.lane) (last_cells s end k)
   no_cell-ahead z = sym (ahead_none (λ c. c.lane) 0) ∙ ap (lane_ahead (λ c. c.lane)) (sym (ap (last_cells s end) z ∙ no_cells s end))
 
-  pub no_note-ahead : k ≡ 0 → 2048 ≡ lane_ahead (λ n. n.lane) (last_notes s end k)
+  no_note-ahead : k ≡ 0 → 2048 ≡ lane_ahead (λ n. n.lane) (last_notes s end k)
   no_note-ahead z = sym (ahead_none (λ n. n.lane) 0) ∙ ap (lane_ahead (λ n. n.lane)) (sym (ap (last_notes s end) z ∙ no_notes s end))
 
-  pub note-ahead : 0 < k → 4 * k ≤ end → {n : Note} → n ≡ note_at s (end - 4 * k) → n.lane ≡ lane_ahead (λ n. n.lane) (last_notes s end k)
+  note-ahead : 0 < k → 4 * k ≤ end → {n : Note} → n ≡ note_at s (end - 4 * k) → n.lane ≡ lane_ahead (λ n. n.lane) (last_notes s end k)
   note-ahead more fits {n} is =
       let first : last_notes s end k ≡ n ∷ last_notes s end (k - 1) = last_notes_lem s end k more fits ∙ rw (← is) in
       sym (ahead-first (λ n. n.lane) 0 n (last_notes s end (k - 1))) ∙ ap (lane_ahead (λ n. n.lane)) (sym first)
@@ -357,10 +358,27 @@ over_lane h line c d xs ys = refl
 
 -- ---- the lane that is next
 
-pub lane_is : (s : List ℕ) (from : Contents) {a b r : ℕ} → a ≡ lane_ahead (λ n. n.lane) (last_notes s from.notes.end from.notes.left)
-    → b ≡ lane_ahead (λ c. c.lane) (last_cells s from.cells.end from.cells.left) → r ≡ min a b → r ≡ lane_of s from
+note_lane : (s : List ℕ) (end k : ℕ) → 4 * k ≤ end → lane_of_last 4 s end k ≡ lane_ahead (λ n. n.lane) (last_notes s end k)
+unfolding lane_of_last note_at
+note_lane s end k fits = go (eqb k 0) refl
+  where
+    go : (b : Bool) → eqb k 0 ≡ b → cond b 2048 (note_at s (end - 4 * k)).lane ≡ lane_ahead (λ n. n.lane) (last_notes s end k)
+    go true e = no_note-ahead s end k (eqb-true k 0 e)
+    go false e = note-ahead s end k (omega (arith, eqb-false k 0 e)) fits refl
+
+pub cell_lane : (s : List ℕ) (end k : ℕ) → 6 * k ≤ end → lane_of_last 6 s end k ≡ lane_ahead (λ c. c.lane) (last_cells s end k)
+unfolding lane_of_last cell_at
+cell_lane s end k fits = go (eqb k 0) refl
+  where
+    go : (b : Bool) → eqb k 0 ≡ b → cond b 2048 (cell_at s (end - 6 * k)).lane ≡ lane_ahead (λ c. c.lane) (last_cells s end k)
+    go true e = no_cell-ahead s end k (eqb-true k 0 e)
+    go false e = cell-ahead s end 0 k (omega (arith, eqb-false k 0 e)) fits refl
+
+pub lane_is : (s : List ℕ) (from : Contents) {a b r : ℕ} → a ≡ lane_of_last 4 s from.notes.end from.notes.left → b ≡ lane_of_last 6 s from.cells.end from.cells.left
+    → r ≡ min a b → r ≡ lane_of s from
 unfolding lane_of
-lane_is s from e f g = g ∙ rw (e, f)
+lane_is s from e f g =
+    g ∙ rw (e ∙ note_lane s from.notes.end from.notes.left from.notes.fits, f ∙ cell_lane s from.cells.end from.cells.left from.cells.fits)
 
 pub least_is : (s : List ℕ) (first second : Contents) {a b r : ℕ} → a ≡ lane_of s first → b ≡ lane_of s second → r ≡ min a b
     → r ≡ least_lane (last_notes s first.notes.end first.notes.left) (last_cells s first.cells.end first.cells.left) (last_notes s second.notes.end second.notes.left) (last_cells s second.cells.end second.cells.left)

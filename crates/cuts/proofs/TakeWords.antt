@@ -10,7 +10,7 @@ use Rattle.words.specs.Parts.{Same, splice_same}
 use Rattle.words.specs.Splice.{splice, length-splice}
 use Rattle.model.specs.Lists.{gather}
 use Rattle.model.specs.Limits.{max_words}
-use Rattle.model.specs.Takes.{Take, note_words, cell_words, words_used, notes_of, words_of}
+use Rattle.model.specs.Takes.{Take, note_words, cell_words, notes_of, words_of}
 use Rattle.model.specs.Questions.{fits}
 use Rattle.model.specs.declared.Header.{Header}
 use Rattle.model.specs.declared.Note.{Note}
@@ -60,9 +60,6 @@ module _ (h : Header) (v : Take) (small : h.words ≤ max_words) (fit : fits h v
     notes_few = omega (arith, take-room h v fit);
     cells_few = omega (arith, take-room h v fit);
   }
-
-  pub frame_asks : (at + h.words ≤ length s₂) × (words_used ((middle - (at + 3)) / 4) ((end - middle) / 6) ≤ h.words)
-  frame_asks = (omega (arith, long, inside), rw (counted.notes-count, counted.cells_count) (take-room h v fit))
 
   pub take_put : {beats : ℕ} → beats ≡ v.beats → {s₃ : List ℕ} → s₃ ≡ framed s₂ at h.words beats ((middle - (at + 3)) / 4) ((end - middle) / 6)
       → s₃ ≡ splice s at (words_of h v)

@@ -14,7 +14,7 @@ use Rattle.cuts.specs.declared.halves.Contents.{Contents}
 use Rattle.cuts.specs.declared.halves.Ends.{Ends}
 use Rattle.cuts.specs.declared.halves.CellPlace.{CellPlace}
 use Rattle.cuts.specs.declared.halves.Cursors.{Cursors}
-use Rattle.cuts.specs.Halving.{HalfOk, HalfAsks, passed, note_part, notes_left}
+use Rattle.cuts.specs.Halving.{is_right, HalfOk, HalfAsks, passed, note_part, notes_left}
 
 -- ---- words written from two places on
 
@@ -41,8 +41,8 @@ pub record BothPlaced (s : List ℕ) (from : Contents) (to : Ends) (m n : ℕ) :
 
 -- The left half and the right half of one split.
 pub record Sides (a b : Half) : Type 0 where
-  pub left_is : a.right ≡ false
-  pub right_is : b.right ≡ true
+  pub left_is : is_right a.side ≡ false
+  pub right_is : is_right b.side ≡ true
   pub beat_is : b.beat ≡ a.beat
   pub line_is : b.line ≡ a.line
   pub edges : a.edge ≤ b.edge

@@ -1,6 +1,6 @@
 -- The halves of a split: what a half has of a take, note by note, and the shelf that is read.
 -- Assumes nothing.
-use Rattle.std.specs.Prelude.{◌≡◌, true, false, cond, List, [], ◌∷◌, ℕ, ◌+◌, ◌-◌, ◌*◌, ◌≤◌, ◌<◌, leb, length}
+use Rattle.std.specs.Prelude.{◌≡◌, Bool, true, false, cond, List, [], ◌∷◌, ℕ, ◌+◌, ◌-◌, ◌*◌, ◌≤◌, ◌<◌, leb, length}
 use Rattle.std.proofs.Math.Nat.{le-add_left}
 use Rattle.std.proofs.Math.Option.{Option, none, some}
 use Rattle.words.specs.Apart.{Apart}
@@ -19,26 +19,32 @@ use Rattle.laws.specs.Sweep.{skip}
 use Rattle.laws.specs.Cutting.{note_back, first_cell, closing_cell, cut_left_from, cut_right_from}
 use Rattle.session.specs.Reading.{last_notes, last_cells}
 use Rattle.cuts.specs.declared.halves.Half.{Half}
+use Rattle.cuts.specs.declared.halves.Side.{Side}
+use Rattle.cuts.specs.declared.halves.Side.TheVariants.{Left, Right}
 use Rattle.cuts.specs.declared.halves.Contents.{Contents}
 
 -- ---- a half
 
+abbrev pub is_right : Side → Bool
+is_right Left = false
+is_right Right = true
+
 -- The two halves of a split at beat k; the right one of a take of n beats.
 abbrev pub left_half : ℕ → ℕ → Half
-left_half δ k = record { right = false; beat = k; line = k * δ; edge = k - 1; beats = k }
+left_half δ k = record { side = Left; beat = k; line = k * δ; edge = k - 1; beats = k }
 
 abbrev pub right_half : ℕ → ℕ → ℕ → Half
-right_half δ k n = record { right = true; beat = k; line = k * δ; edge = k; beats = n - k }
+right_half δ k n = record { side = Right; beat = k; line = k * δ; edge = k; beats = n - k }
 
 -- The line and the beats that a half's beat and side give it.
 pub record HalfOk (δ : ℕ) (v : Half) : Type 0 where
   pub line_is : v.line ≡ v.beat * δ
-  pub edge_is : v.edge ≡ cond v.right v.beat (v.beat - 1)
+  pub edge_is : v.edge ≡ cond (is_right v.side) v.beat (v.beat - 1)
 
 -- The half of a take.
 unfoldable pub half_of : ℕ → Half → Take → Take
 unfolding split_left split_right
-half_of δ v t = cond v.right (split_right δ v.beat t) (split_left δ v.beat t)
+half_of δ v t = cond (is_right v.side) (split_right δ v.beat t) (split_left δ v.beat t)
 
 -- ---- its part of a note
 
@@ -50,12 +56,12 @@ passed v n cs = cond (leb n.end v.line) cs (cond (leb v.line n.start) cs (skip n
 -- The half's own cell on the line, where the cells from its beat on are these.
 unfoldable pub line_cell : Half → List Cell → Option Cell
 unfolding first_cell closing_cell
-line_cell v cs = cond v.right (first_cell cs) (closing_cell cs)
+line_cell v cs = cond (is_right v.side) (first_cell cs) (closing_cell cs)
 
 -- The part of a note that crosses the line. The right half's has the velocity of its cell.
 unfoldable pub crossed_note : Half → Note → ℕ → Note
 crossed_note v n velocity =
-    cond v.right (record { lane = n.lane; start = 0; end = n.end - v.line; velocity = velocity })
+    cond (is_right v.side) (record { lane = n.lane; start = 0; end = n.end - v.line; velocity = velocity })
     (record { lane = n.lane; start = n.start; end = v.line; velocity = n.velocity })
 
 -- It is there if the half's cell stands alone.
@@ -72,13 +78,13 @@ across_parts h v n cs = crossed_by h v n (line_cell v cs)
 unfoldable pub note_part : Header → Half → Note → List Cell → List Note
 unfolding across_parts
 note_part h v n cs =
-    cond (leb n.end v.line) (cond v.right [] (n ∷ []))
-    (cond (leb v.line n.start) (cond v.right (note_back v.line n ∷ []) []) (across_parts h v n cs))
+    cond (leb n.end v.line) (cond (is_right v.side) [] (n ∷ []))
+    (cond (leb v.line n.start) (cond (is_right v.side) (note_back v.line n ∷ []) []) (across_parts h v n cs))
 
 -- Its parts of notes, in one pass over notes and cells.
 unfoldable pub note_parts : Header → Half → List Note → List Cell → List Note
 unfolding cut_left_from cut_right_from
-note_parts h v ns cs = cond v.right (cut_right_from h v.beat ns cs) (cut_left_from h v.beat ns cs)
+note_parts h v ns cs = cond (is_right v.side) (cut_right_from h v.beat ns cs) (cut_left_from h v.beat ns cs)
 
 -- ---- the shelf that is read
 

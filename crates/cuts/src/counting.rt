@@ -86,7 +86,7 @@ fn count_seams(s: &[u32], h: Header, beats: u32, first: Contents, second: Conten
     let mut pairs = 0;
     let mut alone = 0;
     while 0 < left.left {
-        let lane = seam::cell_lane(s, left).min(seam::cell_lane(s, over));
+        let lane = left.lane(s).min(over.lane(s));
         let a = cell_run(s, lane, left);
         let b = cell_run(s, lane, over);
         let next = lane_count(s, h, beats, a, b);

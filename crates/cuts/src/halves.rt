@@ -6,7 +6,7 @@ ghost use Rattle.model.specs.Lists.{gather};
 ghost use Rattle.model.specs.Takes.{note_words, cell_words, cell_to, words_of};
 ghost use Rattle.model.specs.Session.{shelf_at};
 ghost use Rattle.model.specs.Questions.{take_at};
-ghost use Rattle.laws.specs.Cutting.{first_cell};
+ghost use Rattle.laws.specs.Cutting.{closing_cell, first_cell};
 ghost use Rattle.session.specs.Framing.{framed};
 ghost use Rattle.session.specs.Reading.{last_cells};
 ghost use Rattle.cuts.specs.Halving.{left_half, right_half, half_of, line_cell, crossed_note, across_parts, max_session, contents_by, contents_at, notes_left, Noted};
@@ -16,11 +16,17 @@ use crate::lasts::{Cells, Last, Notes};
 use model::{Cell, Header, Note};
 use session::{clear, header, notes, rules, shelf};
 
+// The half before the beat of a split, or the half from that beat on.
+#[derive(Clone, Copy)]
+pub enum Side {
+    Left,
+    Right,
+}
+
 // One half of a take that is split at a beat.
 #[derive(Clone, Copy)]
 pub struct Half {
-    // Is it the right half, the beats from that beat on? Else it is the left half, the beats before it.
-    pub right: bool,
+    pub side: Side,
     // The beat of the split, and the tick of its opening line.
     pub beat: u32,
     pub line: u32,
@@ -37,7 +43,7 @@ pub fn left_half(delta: u32, beat: u32) -> Half
 {
     if beat == 0 {
         return Half {
-            right: false,
+            side: Side::Left,
             beat: 0,
             line: 0,
             edge: 0,
@@ -45,7 +51,7 @@ pub fn left_half(delta: u32, beat: u32) -> Half
         };
     }
     Half {
-        right: false,
+        side: Side::Left,
         beat,
         line: beat * delta,
         edge: beat - 1,
@@ -59,7 +65,7 @@ pub fn right_half(delta: u32, beat: u32, beats: u32) -> Half
     ensures { result ≡ right_half delta beat beats }
 {
     Half {
-        right: true,
+        side: Side::Right,
         beat,
         line: beat * delta,
         edge: beat,
@@ -104,15 +110,12 @@ pub fn contents_at(s: &[u32], at: usize) -> Contents
 
 // ---- notes
 
-// The cells from the half's own cell on the line on: its beat's opening cell for the right half, its beat's closing cell for the left.
-fn line_cells(s: &[u32], half: Half, cells: Cells) -> Cells
+// The cells from the closing cell of the beat in front on: behind its opening cell, if that stands there.
+fn closing_cells(s: &[u32], cells: Cells) -> Cells
     requires { cells.end ≤ length s.now }
-    ensures line { (first_cell (last_cells s.now cells.end result.left) ≡ line_cell half (last_cells s.now cells.end cells.left)) × (result.left ≤ cells.left) }
+    ensures line { (first_cell (last_cells s.now cells.end result.left) ≡ closing_cell (last_cells s.now cells.end cells.left)) × (result.left ≤ cells.left) }
     ensures end_is { result.end ≡ cells.end }
 {
-    if half.right {
-        return cells;
-    }
     if cells.left == 0 {
         return cells;
     }
@@ -123,24 +126,34 @@ fn line_cells(s: &[u32], half: Half, cells: Cells) -> Cells
     cells
 }
 
+// The cells from the half's own cell on the line on: its beat's opening cell for the right half, its beat's closing cell for the left.
+fn line_cells(s: &[u32], half: Half, cells: Cells) -> Cells
+    requires { cells.end ≤ length s.now }
+    ensures line { (first_cell (last_cells s.now cells.end result.left) ≡ line_cell half (last_cells s.now cells.end cells.left)) × (result.left ≤ cells.left) }
+    ensures end_is { result.end ≡ cells.end }
+{
+    match half.side {
+        Side::Left => closing_cells(s, cells),
+        Side::Right => cells,
+    }
+}
+
 // The half's part of a note that crosses the line. The right half's has the velocity of its cell.
 fn crossed(half: Half, n: Note, velocity: u32) -> Note
     requires { half.line ≤ n.end }
     ensures { result ≡ crossed_note half n velocity }
 {
-    if half.right {
-        return Note {
-            lane: n.lane,
+    match half.side {
+        Side::Left => Note {
+            end: half.line,
+            ..n
+        },
+        Side::Right => Note {
             start: 0,
             end: n.end - half.line,
             velocity,
-        };
-    }
-    Note {
-        lane: n.lane,
-        start: n.start,
-        end: half.line,
-        velocity: n.velocity,
+            ..n
+        },
     }
 }
 
@@ -158,7 +171,7 @@ fn put_across(s: &mut [u32], to: usize, h: Header, half: Half, n: Note, cells: C
         return to;
     }
     let part = crossed(half, n, c.velocity);
-    words::put_four(s, to, part.lane, part.start, part.end, part.velocity);
+    words::put(s, to, [part.lane, part.start, part.end, part.velocity]);
     to + 4
 }
 
@@ -226,7 +239,7 @@ fn put_parts(
 {
     let line = before.line;
     if n.end <= line {
-        words::put_four(s, at.to.left, n.lane, n.start, n.end, n.velocity);
+        words::put(s, at.to.left, [n.lane, n.start, n.end, n.velocity]);
         return Cursors {
             to: Ends {
                 left: at.to.left + 4,
@@ -238,7 +251,7 @@ fn put_parts(
     }
     if line <= n.start {
         let start = n.start - line;
-        words::put_four(s, at.to.right, n.lane, start, n.end - line, n.velocity);
+        words::put(s, at.to.right, [n.lane, start, n.end - line, n.velocity]);
         return Cursors {
             to: Ends {
                 left: at.to.left,
@@ -269,14 +282,6 @@ fn put_notes(s: &mut [u32], h: Header, before: Half, behind: Half, from: Content
 }
 
 // ---- cells
-
-// A cell, put into a beat, written from place `to` on.
-fn put_cell_in(s: &mut [u32], to: usize, beat: u32, c: Cell)
-    requires { to + 6 ≤ length s.old }
-    ensures { s.new ≡ splice s.old to (cell_words (cell_to beat c)) }
-{
-    words::put_six(s, to, c.lane, beat, c.side, c.before, c.after, c.velocity);
-}
 
 // Where a cell of a take goes, its beat there, and the places behind each half's cells then.
 #[derive(Drop)]
@@ -318,7 +323,11 @@ fn put_cell(s: &mut [u32], beat: u32, c: Cell, at: Ends) -> Ends
     ensures { BothPut s.old at (gather cell_words (left_cell beat c)) (gather cell_words (right_cell beat c)) s.new result }
 {
     let place = cell_place(beat, c.beat, at);
-    put_cell_in(s, place.to, place.beat, c);
+    words::put(
+        s,
+        place.to,
+        [c.lane, place.beat, c.side, c.before, c.after, c.velocity],
+    );
     place.behind
 }
 
@@ -338,7 +347,7 @@ fn put_cells(s: &mut [u32], beat: u32, from: Contents, to: Ends) -> Ends
 // ---- the halves
 
 // The counts and zeros of a shelf at a place, whose notes stand up to `middle` and whose cells up to `end`.
-fn put_counts(s: &mut [u32], at: usize, words: u32, beats: u32, middle: usize, end: usize)
+pub fn put_counts(s: &mut [u32], at: usize, words: u32, beats: u32, middle: usize, end: usize)
     requires { CountsAsks s.old at words middle end }
     ensures { s.new ≡ framed s.old at words beats ((middle - (at + 3)) / 4) ((end - middle) / 6) }
 {

@@ -11,7 +11,7 @@ use crate::halves::Contents;
 use crate::lasts::Cells;
 use crate::{halves, lanes};
 use model::{Cell, Header};
-use session::{header, notes, shelf};
+use session::{header, notes};
 
 // ---- cells
 
@@ -27,15 +27,17 @@ fn put_lower(s: &mut [u32], to: usize, lane: u32, beats: u32, cells: Cells) -> C
         if lane <= c.lane {
             return cells.keep(rest);
         }
-        words::put_six(
+        words::put(
             s,
             at,
-            c.lane,
-            beats + c.beat,
-            c.side,
-            c.before,
-            c.after,
-            c.velocity,
+            [
+                c.lane,
+                beats + c.beat,
+                c.side,
+                c.before,
+                c.after,
+                c.velocity,
+            ],
         );
         at += 6;
     }
@@ -50,7 +52,11 @@ fn put_before(s: &mut [u32], to: usize, c: Cell, beats: u32, cells: Cells) -> Ce
 {
     let rest = put_lower(s, to, c.lane, beats, cells);
     let at = to + 6 * (cells.left - rest.left);
-    words::put_six(s, at, c.lane, c.beat, c.side, c.before, c.after, c.velocity);
+    words::put(
+        s,
+        at,
+        [c.lane, c.beat, c.side, c.before, c.after, c.velocity],
+    );
     rest
 }
 
@@ -100,7 +106,5 @@ pub fn put_joined(s: &mut [u32], h: Header, first: u32, second: u32, res: u32)
     let at = header::shelf_at(h, res);
     let middle = lanes::put_joined_notes(s, at + 3, h, beats, a, b);
     let end = put_joined_cells(s, middle, beats, a, b);
-    let notes = (middle - (at + 3)) / 4;
-    let cells = (end - middle) / 6;
-    shelf::put_frame(s, at, h.words as usize, total, notes as u32, cells as u32);
+    halves::put_counts(s, at, h.words, total, middle, end);
 }

@@ -62,7 +62,7 @@ fn put_seam(s: &mut [u32], to: usize, count: usize, seam: Option<Seam>) -> usize
     };
     let at = to + 4 * kept_notes(over, count);
     let n = over.note;
-    words::put_four(s, at, n.lane, n.start, n.end, n.velocity);
+    words::put(s, at, [n.lane, n.start, n.end, n.velocity]);
     at + 4
 }
 

@@ -15,11 +15,26 @@ pub type Notes = Last<4>;
 pub type Cells = Last<6>;
 
 impl<const WORDS: usize> Last<WORDS> {
+    ghost use Rattle.std.specs.Prelude.{◌<◌, length};
+    ghost use Rattle.cuts.specs.Lasts.{lane_of_last};
+
     // The place of the first.
     pub fn place(self) -> usize
         ensures { result ≡ self.entry.end - WORDS * self.entry.left }
     {
         self.end - WORDS * self.left
+    }
+
+    // The lane of the first, which is its first word: 2,048 if there is none.
+    pub fn lane(self, s: &[u32]) -> u32
+        requires some { 0 < WORDS }
+        requires inside { self.end ≤ length s.now }
+        ensures { result ≡ lane_of_last WORDS s.now self.entry.end self.entry.left }
+    {
+        if self.left == 0 {
+            return 2048;
+        }
+        s[self.place()]
     }
 
     // The last so many of them.

@@ -1,6 +1,6 @@
 // The notes of a join, lane by lane: copied from both takes, and at the seam decided by the rules.
 ghost use Rattle.std.specs.Prelude.{◌≡◌, ◌+◌, ◌*◌, ◌≤◌, min, length};
-ghost use Rattle.laws.specs.JoinWalk.{lane_ahead, least_lane, note_run, cell_rest};
+ghost use Rattle.laws.specs.JoinWalk.{least_lane, note_run, cell_rest};
 ghost use Rattle.laws.specs.Seam.{bound_at, ending_at, starting_at0, up_to, from_on};
 ghost use Rattle.session.specs.Reading.{last_notes, last_cells};
 ghost use Rattle.cuts.specs.Seams.{NoteRunAsks, NoteRunPut, RunRead, OverAsks, lane_notes, over_seam, InPlace, lane_of};
@@ -22,7 +22,7 @@ pub fn put_note_run(s: &mut [u32], to: usize, lane: u32, ticks: u32, notes: Note
         if n.lane != lane {
             return notes.keep(rest);
         }
-        words::put_four(s, at, n.lane, n.start + ticks, n.end + ticks, n.velocity);
+        words::put(s, at, [n.lane, n.start + ticks, n.end + ticks, n.velocity]);
         at += 4;
     }
     notes.keep(0)
@@ -47,6 +47,7 @@ pub fn behind_cell_run(s: &[u32], cells: Cells, lane: u32) -> Cells
 pub fn bound_over(h: Header, beats: u32, c: Cell, d: Cell) -> bool
     ensures { result ≡ bound_at h beats c d }
 {
+    // Tried as one conjunction: its branches join before the last test, and the proof did not close.
     if c.side != 1 {
         return false;
     }
@@ -60,30 +61,6 @@ pub fn bound_over(h: Header, beats: u32, c: Cell, d: Cell) -> bool
         return false;
     }
     rules::is_bound(h, c, d)
-}
-
-// The lane of the first of the last notes: 2,048 if there is none.
-fn note_lane(s: &[u32], notes: Notes) -> u32
-    requires { notes.end ≤ length s.now }
-    ensures { result ≡ lane_ahead (λ n. n.lane) (last_notes s.now notes.end notes.left) }
-{
-    if notes.left == 0 {
-        return 2048;
-    }
-    let n = notes::note_at(s, notes.place());
-    n.lane
-}
-
-// The lane of the first of the last cells: 2,048 if there is none.
-pub fn cell_lane(s: &[u32], cells: Cells) -> u32
-    requires { cells.end ≤ length s.now }
-    ensures { result ≡ lane_ahead (λ c. c.lane) (last_cells s.now cells.end cells.left) }
-{
-    if cells.left == 0 {
-        return 2048;
-    }
-    let c = notes::cell_at(s, cells.place());
-    c.lane
 }
 
 // ---- the note that goes over the line
@@ -205,7 +182,7 @@ fn lane_of(s: &[u32], from: Contents) -> u32
     requires { InPlace s.now from }
     ensures { result ≡ lane_of s.now from }
 {
-    note_lane(s, from.notes).min(cell_lane(s, from.cells))
+    from.notes.lane(s).min(from.cells.lane(s))
 }
 
 // The least lane in front of both takes' notes and cells: 2,048 if there are none.

@@ -9,8 +9,8 @@ put_lower-rest-requires c = lower_asks c.requires
 pub overflow_sub-at : goal.overflow_sub-at
 overflow_sub-at c = omega (arith, fewer c.requires c.put_lower-rest.ensures.put)
 
-pub put_six-requires : goal.put_six-requires
-put_six-requires c = behind-lower c.requires c.put_lower-rest.ensures.put
+pub put-requires : goal.put-requires
+put-requires c = (omega arith, behind-lower c.requires c.put_lower-rest.ensures.put)
 
 pub returns-clause-put : goal.returns-clause-put
-returns-clause-put c = before-put c.requires c.put_lower-rest.ensures.put c.put_six.ensures
+returns-clause-put c = before-put c.requires c.put_lower-rest.ensures.put c.put.ensures

@@ -3,7 +3,7 @@ use native.Mathlib.Omega.{arith}
 use Rattle.session.proofs.Sources.{place_asks}
 use Rattle.cuts.proofs.HalfWords.{read, contents_asks}
 use Rattle.cuts.proofs.JoinWords.{range, first_read, second_read}
-use Rattle.cuts.proofs.JoinedWords.{beats_room, notes-place, notes_asks, cells_asks, counted, frame_asks, join-put}
+use Rattle.cuts.proofs.JoinedWords.{beats_room, notes-place, notes_asks, cells_asks, counts_asks, join-put}
 use Rattle.cuts.proofs.joined.put_joined.Goals as goal
 
 pub beats_at-beats-requires : goal.beats_at-beats-requires
@@ -39,23 +39,8 @@ put_joined_notes-middle-requires c = notes_asks c.requires (read (first_read c.r
 pub put_joined_cells-end-requires : goal.put_joined_cells-end-requires
 put_joined_cells-end-requires c = cells_asks c.requires (read (first_read c.requires.asks) c.shelf_at.ensures c.contents_at-a.ensures) (read (second_read c.requires.asks) c.shelf_at-2.ensures c.contents_at-b.ensures) c.shelf_at-at.ensures c.beats_at-beats.ensures c.put_joined_notes-middle.ensures
 
-pub overflow_add-notes : goal.overflow_add-notes
-overflow_add-notes c = omega (arith, (counted c.requires (read (first_read c.requires.asks) c.shelf_at.ensures c.contents_at-a.ensures) (read (second_read c.requires.asks) c.shelf_at-2.ensures c.contents_at-b.ensures) c.shelf_at-at.ensures c.beats_at-beats.ensures c.put_joined_notes-middle.ensures c.put_joined_cells-end.ensures).notes_low)
-
-pub overflow_sub-notes : goal.overflow_sub-notes
-overflow_sub-notes c = omega (arith, (counted c.requires (read (first_read c.requires.asks) c.shelf_at.ensures c.contents_at-a.ensures) (read (second_read c.requires.asks) c.shelf_at-2.ensures c.contents_at-b.ensures) c.shelf_at-at.ensures c.beats_at-beats.ensures c.put_joined_notes-middle.ensures c.put_joined_cells-end.ensures).notes_low)
-
-pub overflow_sub-cells : goal.overflow_sub-cells
-overflow_sub-cells c = omega (arith, (counted c.requires (read (first_read c.requires.asks) c.shelf_at.ensures c.contents_at-a.ensures) (read (second_read c.requires.asks) c.shelf_at-2.ensures c.contents_at-b.ensures) c.shelf_at-at.ensures c.beats_at-beats.ensures c.put_joined_notes-middle.ensures c.put_joined_cells-end.ensures).cells_low)
-
-pub overflow_cast-notes : goal.overflow_cast-notes
-overflow_cast-notes c = omega (arith, counted c.requires (read (first_read c.requires.asks) c.shelf_at.ensures c.contents_at-a.ensures) (read (second_read c.requires.asks) c.shelf_at-2.ensures c.contents_at-b.ensures) c.shelf_at-at.ensures c.beats_at-beats.ensures c.put_joined_notes-middle.ensures c.put_joined_cells-end.ensures)
-
-pub overflow_cast-cells : goal.overflow_cast-cells
-overflow_cast-cells c = omega (arith, counted c.requires (read (first_read c.requires.asks) c.shelf_at.ensures c.contents_at-a.ensures) (read (second_read c.requires.asks) c.shelf_at-2.ensures c.contents_at-b.ensures) c.shelf_at-at.ensures c.beats_at-beats.ensures c.put_joined_notes-middle.ensures c.put_joined_cells-end.ensures)
-
-pub put_frame-requires : goal.put_frame-requires
-put_frame-requires c = frame_asks c.requires (read (first_read c.requires.asks) c.shelf_at.ensures c.contents_at-a.ensures) (read (second_read c.requires.asks) c.shelf_at-2.ensures c.contents_at-b.ensures) c.shelf_at-at.ensures c.beats_at-beats.ensures c.put_joined_notes-middle.ensures c.put_joined_cells-end.ensures
+pub put_counts-requires : goal.put_counts-requires
+put_counts-requires c = counts_asks c.requires (read (first_read c.requires.asks) c.shelf_at.ensures c.contents_at-a.ensures) (read (second_read c.requires.asks) c.shelf_at-2.ensures c.contents_at-b.ensures) c.shelf_at-at.ensures c.beats_at-beats.ensures c.put_joined_notes-middle.ensures c.put_joined_cells-end.ensures
 
 pub returns : goal.returns
-returns c = join-put c.requires (read (first_read c.requires.asks) c.shelf_at.ensures c.contents_at-a.ensures) (read (second_read c.requires.asks) c.shelf_at-2.ensures c.contents_at-b.ensures) c.shelf_at-at.ensures c.beats_at-beats.ensures c.put_joined_notes-middle.ensures c.put_joined_cells-end.ensures c.beats_at.ensures c.put_frame.ensures
+returns c = join-put c.requires (read (first_read c.requires.asks) c.shelf_at.ensures c.contents_at-a.ensures) (read (second_read c.requires.asks) c.shelf_at-2.ensures c.contents_at-b.ensures) c.shelf_at-at.ensures c.beats_at-beats.ensures c.put_joined_notes-middle.ensures c.put_joined_cells-end.ensures c.beats_at.ensures c.put_counts.ensures

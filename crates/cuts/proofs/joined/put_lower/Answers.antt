@@ -18,11 +18,11 @@ cell_at-c-requires c = lower-inside c.requires c.loop-rest.invariant c.loop-rest
 pub overflow_add-beats : goal.overflow_add-beats
 overflow_add-beats c = omega (arith, (lower_movable c.requires c.loop-rest.invariant c.loop-rest-test.true c.cell_at-c.ensures).beat_word)
 
-pub put_six-requires : goal.put_six-requires
-put_six-requires c = lower-room c.requires c.loop-rest.invariant c.loop-rest-test.true c.cell_at-c.ensures c.if-lane-c.false
+pub put-requires : goal.put-requires
+put-requires c = (omega arith, lower-room c.requires c.loop-rest.invariant c.loop-rest-test.true c.cell_at-c.ensures c.if-lane-c.false)
 
 pub loop-rest-preserved : goal.loop-rest-preserved
-loop-rest-preserved c = lowering_cell c.requires c.loop-rest.invariant c.loop-rest-test.true c.cell_at-c.ensures c.if-lane-c.false c.put_six.ensures
+loop-rest-preserved c = lowering_cell c.requires c.loop-rest.invariant c.loop-rest-test.true c.cell_at-c.ensures c.if-lane-c.false c.put.ensures
 
 pub shape_of-s : goal.shape_of-s
 shape_of-s c = c.loop-rest.invariant.writes.long

@@ -12,11 +12,11 @@ overflow_mul-at c = omega (arith, kept_few c.in-Some.over c.args.count, c.kept_n
 pub overflow_add-at : goal.overflow_add-at
 overflow_add-at c = omega (arith, kept_few c.in-Some.over c.args.count, c.kept_notes.ensures, c.requires.0)
 
-pub put_four-requires : goal.put_four-requires
-put_four-requires c = over_room _ c.in-Some.is c.args.to c.kept_notes.ensures c.requires.1
+pub put-requires : goal.put-requires
+put-requires c = (omega arith, over_room _ c.in-Some.is c.args.to c.kept_notes.ensures c.requires.1)
 
 pub overflow_add-result-2 : goal.overflow_add-result-2
 overflow_add-result-2 c = omega (arith, over_room _ c.in-Some.is c.args.to c.kept_notes.ensures c.requires.1)
 
 pub returns : goal.returns
-returns c = put_over _ c.in-Some.is c.kept_notes.ensures c.put_four.ensures
+returns c = put_over _ c.in-Some.is c.kept_notes.ensures c.put.ensures

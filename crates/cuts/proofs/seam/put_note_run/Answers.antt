@@ -21,11 +21,11 @@ overflow_add-n c = omega (arith, (run_shiftable c.requires c.loop-rest.invariant
 pub overflow_add-n-in-loop-rest : goal.overflow_add-n-in-loop-rest
 overflow_add-n-in-loop-rest c = omega (arith, (run_shiftable c.requires c.loop-rest.invariant c.loop-rest-test.true c.note_at-n.ensures).end_word)
 
-pub put_four-requires : goal.put_four-requires
-put_four-requires c = run_room c.requires c.loop-rest.invariant c.loop-rest-test.true c.note_at-n.ensures c.if-n-lane.false
+pub put-requires : goal.put-requires
+put-requires c = (omega arith, run_room c.requires c.loop-rest.invariant c.loop-rest-test.true c.note_at-n.ensures c.if-n-lane.false)
 
 pub loop-rest-preserved : goal.loop-rest-preserved
-loop-rest-preserved c = running_note c.requires c.loop-rest.invariant c.loop-rest-test.true c.note_at-n.ensures c.if-n-lane.false c.put_four.ensures
+loop-rest-preserved c = running_note c.requires c.loop-rest.invariant c.loop-rest-test.true c.note_at-n.ensures c.if-n-lane.false c.put.ensures
 
 pub shape_of-s : goal.shape_of-s
 shape_of-s c = c.loop-rest.invariant.writes.long
