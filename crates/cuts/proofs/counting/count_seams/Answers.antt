@@ -3,18 +3,6 @@ use native.Mathlib.Omega.{arith}
 use Rattle.cuts.proofs.JoinCounts.{counting_start, seams_counted, fewer_cells, pairs-room, alone-room, counting_lane}
 use Rattle.cuts.proofs.counting.count_seams.Goals as goal
 
-pub loop-left-init : goal.loop-left-init
-loop-left-init c = counting_start c.requires
-
-pub cell_run-a-requires : goal.cell_run-a-requires
-cell_run-a-requires c = c.loop-left.invariant.left_in
-
-pub cell_run-b-requires : goal.cell_run-b-requires
-cell_run-b-requires c = c.loop-left.invariant.over_in
-
-pub lane_count-next-requires : goal.lane_count-next-requires
-lane_count-next-requires c = (c.cell_run-a.ensures.ahead, c.cell_run-b.ensures.ahead)
-
 pub overflow_add-pairs : goal.overflow_add-pairs
 overflow_add-pairs c = omega (arith, pairs-room c.requires c.loop-left.invariant c.loop-left-test.true c.lane.ensures c.lane-in-loop-left.ensures c.min-lane.ensures c.cell_run-a.ensures c.cell_run-b.ensures c.lane_count-next.ensures)
 

@@ -8,8 +8,5 @@ use Rattle.cuts.proofs.counting.pair_count.Goals as goal
 pub returns-then-not-bound_over : goal.returns-then-not-bound_over
 returns-then-not-bound_over c = not_bound _ _ _ _ c.bound_over.ensures (ap not c.if-not-bound_over.true) (counted_none c.default.ensures)
 
-pub overflow_add-result : goal.overflow_add-result
-overflow_add-result c = omega (arith, two_few _ _ _ c.stands_alone.ensures c.from.ensures c.stands_alone-2.ensures c.from-2.ensures)
-
 pub returns : goal.returns
 returns c = one_pair _ _ _ _ c.bound_over.ensures (ap not c.if-not-bound_over.false) c.stands_alone.ensures c.from.ensures c.stands_alone-2.ensures c.from-2.ensures

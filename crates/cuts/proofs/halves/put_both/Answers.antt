@@ -17,12 +17,6 @@ shelf_at-l-requires c = place_asks (range c.requires.left_asks) c.requires.left_
 pub shelf_at-r-requires : goal.shelf_at-r-requires
 shelf_at-r-requires c = place_asks (range c.requires.left_asks) c.requires.right_asks.to_below
 
-pub overflow_add-first : goal.overflow_add-first
-overflow_add-first c = omega (arith, (notes_asks c.requires (read c.requires.left_asks c.shelf_at.ensures c.contents_at-from.ensures) c.shelf_at-l.ensures c.shelf_at-r.ensures).placed.left-room)
-
-pub overflow_add-first-2 : goal.overflow_add-first-2
-overflow_add-first-2 c = omega (arith, (notes_asks c.requires (read c.requires.left_asks c.shelf_at.ensures c.contents_at-from.ensures) c.shelf_at-l.ensures c.shelf_at-r.ensures).placed.right-room)
-
 pub put_notes-middle-requires : goal.put_notes-middle-requires
 put_notes-middle-requires c = notes_asks c.requires (read c.requires.left_asks c.shelf_at.ensures c.contents_at-from.ensures) c.shelf_at-l.ensures c.shelf_at-r.ensures
 

@@ -2,9 +2,6 @@
 use Rattle.cuts.proofs.BothParts.{on_asks, found_on, left_asks, right_asks, crossed_put}
 use Rattle.cuts.proofs.halves.put_crossed.Goals as goal
 
-pub cells_from-openings-requires : goal.cells_from-openings-requires
-cells_from-openings-requires c = on_asks c.requires.0 c.requires.1 c.requires.2 c.cells_from-closings.ensures c.min-ahead.ensures
-
 pub put_across-left-requires : goal.put_across-left-requires
 put_across-left-requires c = left_asks c.requires.0 c.requires.1 c.requires.2 c.cells_from-closings.ensures
 

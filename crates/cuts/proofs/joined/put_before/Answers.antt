@@ -6,9 +6,6 @@ use Rattle.cuts.proofs.joined.put_before.Goals as goal
 pub put_lower-rest-requires : goal.put_lower-rest-requires
 put_lower-rest-requires c = lower_asks c.requires
 
-pub overflow_sub-at : goal.overflow_sub-at
-overflow_sub-at c = omega (arith, fewer c.requires c.put_lower-rest.ensures.put)
-
 pub put-requires : goal.put-requires
 put-requires c = (omega arith, behind-lower c.requires c.put_lower-rest.ensures.put)
 

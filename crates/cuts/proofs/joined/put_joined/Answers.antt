@@ -6,15 +6,6 @@ use Rattle.cuts.proofs.JoinWords.{range, first_read, second_read}
 use Rattle.cuts.proofs.JoinedWords.{beats_room, notes-place, notes_asks, cells_asks, counts_asks, join-put}
 use Rattle.cuts.proofs.joined.put_joined.Goals as goal
 
-pub beats_at-beats-requires : goal.beats_at-beats-requires
-beats_at-beats-requires c = (c.requires.asks.header, c.requires.asks.first_below)
-
-pub beats_at-requires : goal.beats_at-requires
-beats_at-requires c = (c.requires.asks.header, c.requires.asks.second_below)
-
-pub overflow_add-total : goal.overflow_add-total
-overflow_add-total c = omega (arith, beats_room c.requires c.beats_at-beats.ensures c.beats_at.ensures)
-
 pub shelf_at-requires : goal.shelf_at-requires
 shelf_at-requires c = place_asks (range c.requires.asks) c.requires.asks.first_below
 
@@ -29,9 +20,6 @@ contents_at-b-requires c = contents_asks (second_read c.requires.asks) c.shelf_a
 
 pub shelf_at-at-requires : goal.shelf_at-at-requires
 shelf_at-at-requires c = place_asks (range c.requires.asks) c.requires.asks.to_below
-
-pub overflow_add-at : goal.overflow_add-at
-overflow_add-at c = omega (arith, notes-place c.requires (read (first_read c.requires.asks) c.shelf_at.ensures c.contents_at-a.ensures) (read (second_read c.requires.asks) c.shelf_at-2.ensures c.contents_at-b.ensures) c.shelf_at-at.ensures c.beats_at-beats.ensures)
 
 pub put_joined_notes-middle-requires : goal.put_joined_notes-middle-requires
 put_joined_notes-middle-requires c = notes_asks c.requires (read (first_read c.requires.asks) c.shelf_at.ensures c.contents_at-a.ensures) (read (second_read c.requires.asks) c.shelf_at-2.ensures c.contents_at-b.ensures) c.shelf_at-at.ensures c.beats_at-beats.ensures

@@ -5,14 +5,8 @@ use Rattle.cuts.proofs.lanes.put_front.Goals as goal
 pub put_note_run-notes-requires : goal.put_note_run-notes-requires
 put_note_run-notes-requires c = first_asks c.args.lane c.requires
 
-pub behind_cell_run-cells-requires : goal.behind_cell_run-cells-requires
-behind_cell_run-cells-requires c = cell_run_asks c.args.lane c.requires c.put_note_run-notes.ensures.put
-
 pub seam_of-seam-requires : goal.seam_of-seam-requires
 seam_of-seam-requires c = seam_asks c.args.lane c.requires c.put_note_run-notes.ensures.put c.behind_cell_run-cells.ensures.run
-
-pub overflow_sub-first : goal.overflow_sub-first
-overflow_sub-first c = count_few c.args.lane c.requires c.put_note_run-notes.ensures.put
 
 pub put_seam-at-requires : goal.put_seam-at-requires
 put_seam-at-requires c = put_asks c.args.lane c.requires c.put_note_run-notes.ensures.put c.behind_cell_run-cells.ensures.run _ c.seam_of-seam.ensures

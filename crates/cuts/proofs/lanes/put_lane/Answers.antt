@@ -3,17 +3,8 @@ use native.Mathlib.Omega.{arith}
 use Rattle.cuts.proofs.LaneWrites.{back_asks, second_asks, second_cells_asks, behind-room, second_behind, lane-put}
 use Rattle.cuts.proofs.lanes.put_lane.Goals as goal
 
-pub put_front-front-requires : goal.put_front-front-requires
-put_front-front-requires c = c.requires
-
-pub behind_seam-behind-requires : goal.behind_seam-behind-requires
-behind_seam-behind-requires c = back_asks c.args.lane c.requires c.put_front-front.ensures
-
 pub put_note_run-notes-requires : goal.put_note_run-notes-requires
 put_note_run-notes-requires c = second_asks c.args.lane c.requires c.put_front-front.ensures c.behind_seam-behind.ensures.back c.behind_seam-behind.ensures.end_is
-
-pub behind_cell_run-cells-requires : goal.behind_cell_run-cells-requires
-behind_cell_run-cells-requires c = second_cells_asks c.args.lane c.requires c.put_front-front.ensures c.behind_seam-behind.ensures.back c.behind_seam-behind.ensures.end_is c.put_note_run-notes.ensures.put
 
 pub overflow_add-result : goal.overflow_add-result
 overflow_add-result c = omega (arith, behind-room c.args.lane c.requires c.put_front-front.ensures c.behind_seam-behind.ensures.back c.behind_seam-behind.ensures.end_is c.put_note_run-notes.ensures.put)

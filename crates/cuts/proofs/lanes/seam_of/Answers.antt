@@ -11,23 +11,8 @@ returns-then-rest-first c = seam_no_first c.requires c.if-rest-first.true
 pub returns-then-second-eq0 : goal.returns-then-second-eq0
 returns-then-second-eq0 c = seam_no_second c.requires c.if-second-eq0.true
 
-pub cell_at-d-requires : goal.cell_at-d-requires
-cell_at-d-requires c = omega (arith, c.args.second.cells.fits, c.place.ensures, c.requires.second_in.cells-inside, c.if-second-eq0.false)
-
 pub returns-then-d-lane : goal.returns-then-d-lane
 returns-then-d-lane c = seam_other c.requires c.if-second-eq0.false (rw c.place.ensures at c.cell_at-d.ensures) c.if-d-lane.true
-
-pub overflow_add-rest : goal.overflow_add-rest
-overflow_add-rest c = omega (arith, (last-inside c.requires c.if-second-eq0.false (rw c.place.ensures at c.cell_at-d.ensures) c.if-rest-first.false).0)
-
-pub overflow_mul-rest : goal.overflow_mul-rest
-overflow_mul-rest c = omega (arith, (last-inside c.requires c.if-second-eq0.false (rw c.place.ensures at c.cell_at-d.ensures) c.if-rest-first.false).0)
-
-pub overflow_sub-first : goal.overflow_sub-first
-overflow_sub-first c = (last-inside c.requires c.if-second-eq0.false (rw c.place.ensures at c.cell_at-d.ensures) c.if-rest-first.false).0
-
-pub cell_at-c-requires : goal.cell_at-c-requires
-cell_at-c-requires c = (last-inside c.requires c.if-second-eq0.false (rw c.place.ensures at c.cell_at-d.ensures) c.if-rest-first.false).1
 
 pub returns-then-not-bound_over : goal.returns-then-not-bound_over
 returns-then-not-bound_over c = seam_unbound c.requires c.if-second-eq0.false (rw c.place.ensures at c.cell_at-d.ensures) c.if-rest-first.false c.cell_at-c.ensures c.if-d-lane.false c.bound_over.ensures (ap not c.if-not-bound_over.true)

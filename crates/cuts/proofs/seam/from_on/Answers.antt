@@ -11,6 +11,3 @@ returns-then-n-d c = c.starting-then-n-d.ensures ∙ on_other _ _ _ _ _ c.if-not
 
 pub returns-then-stands_alone : goal.returns-then-stands_alone
 returns-then-stands_alone c = on_note _ _ _ _ _ c.if-notes-eq0.false c.args.notes.fits (rw c.place.ensures at c.note_at-n.ensures) c.stands_alone.ensures c.if-stands_alone.true c.if-n-d.false
-
-pub returns : goal.returns
-returns c = c.starting-2.ensures ∙ on_short _ _ _ _ _ c.if-notes-eq0.false c.args.notes.fits (rw c.place.ensures at c.note_at-n.ensures) c.stands_alone.ensures c.if-stands_alone.false
