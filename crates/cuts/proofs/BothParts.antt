@@ -123,22 +123,13 @@ module _ {s : List ℕ} {h : Header} {a b : Half} {n : Note} {end : ℕ} {at : C
         pub left_asks : (at.to.left + 4 * length (across_parts h a n (last_cells s end k)) ≤ length s) × (end ≤ length s) × (a.line ≤ n.end)
         left_asks = (rw left_part at q.left-room, q.inside, omega arith)
 
-        pub closing_in : 6 * k ≤ end
-        closing_in = omega (arith, q.closings_in, e.1)
-
         -- the search that goes on from the closing cell, or from the opening cell before
         module _ {x : ℕ} (is : x ≡ min k at.openings) where
-          pub on_asks : (6 * x ≤ end) × (end ≤ length s)
-          on_asks = (omega (arith, is, closing_in), q.inside)
-
           pub found_on : {o : ℕ} → (last_cells s end o ≡ skip n.lane b.edge (last_cells s end x)) × (o ≤ x)
               → (last_cells s end o ≡ skip n.lane b.edge opening) × (o ≤ at.openings) × (o ≤ k)
           found_on g = goes_on s end n.lane a.edge b.edge at.closings k at.openings q.sides.edges q.closings_in q.order e.0 is g
 
         module _ {o : ℕ} (f : (last_cells s end o ≡ skip n.lane b.edge opening) × (o ≤ at.openings) × (o ≤ k)) where
-          pub opening_in : 6 * o ≤ end
-          opening_in = omega (arith, q.closings_in, q.order, f.1)
-
           opened : last_cells s end o ≡ passed b n opening
           opened = f.0 ∙ some_across b n opening right_over right-under
 

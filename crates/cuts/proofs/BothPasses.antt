@@ -107,9 +107,6 @@ module _ {s₀ : List ℕ} {h : Header} {a b : Half} {from : Contents} {to : End
       pub note-place : 4 * left ≤ from.notes.end
       note-place = omega (arith, q.placed.notes_in_lem, l.notes_few)
 
-      pub note-room : from.notes.end - 4 * left + 4 ≤ length s
-      note-room = omega (arith, note-place, q.placed.order, inside)
-
       module _ {n : Note} (is : n ≡ note_at s (from.notes.end - 4 * left)) where
         first : last_notes s₀ from.notes.end left ≡ n ∷ last_notes s₀ from.notes.end (left - 1)
         first = rw (is ∙ note_was q.placed l.writes lefts rights left more l.notes_few) (last_notes_lem s₀ from.notes.end left more note-place)
@@ -210,9 +207,6 @@ module _ {s₀ : List ℕ} {k : ℕ} {from : Contents} {to : Ends} (q : CellsAsk
     module _ (more : 0 < left) where
       pub cell_place : 6 * left ≤ from.cells.end
       cell_place = omega (arith, q.placed.cells_in, l.cells_few)
-
-      pub cell_room : from.cells.end - 6 * left + 6 ≤ length s
-      cell_room = omega (arith, cell_place, q.placed.inside, l.writes.long)
 
       module _ {c : Cell} (is : c ≡ cell_at s (from.cells.end - 6 * left)) where
         first_cell : last_cells s₀ from.cells.end left ≡ c ∷ last_cells s₀ from.cells.end (left - 1)

@@ -10,7 +10,7 @@ use lib.ListN.{length, length-append}
 use Rattle.words.specs.Apart.{Apart, apart-within, apart_swap}
 use Rattle.words.specs.Parts.{Same}
 use Rattle.words.specs.Splice.{splice, length-splice, splice-append}
-use Rattle.words.specs.Writes.{Writes, writes_start, writes-run, writes-done, writes_same}
+use Rattle.words.specs.Writes.{Writes, writes-run, writes-done, writes_same}
 use Rattle.model.specs.Lists.{gather}
 use Rattle.model.specs.Takes.{cell_words}
 use Rattle.model.specs.declared.Cell.{Cell}
@@ -102,9 +102,6 @@ pub record Lowering (s₀ s : List ℕ) (to lane beats end left₀ at left : ℕ
   pub rest : upper_cells lane (later_cells beats s₀ end left) ≡ upper_cells lane (later_cells beats s₀ end left₀)
 
 module _ {s₀ : List ℕ} {to lane beats end left₀ : ℕ} (a : LowerAsks s₀ to lane beats end left₀) where
-  pub lowering_start : Lowering s₀ s₀ to lane beats end left₀ to left₀
-  lowering_start = record { few = omega arith; place = refl; writes = writes_start s₀ to _; rest = refl }
-
   module _ {s : List ℕ} {at left : ℕ} (l : Lowering s₀ s to lane beats end left₀ at left) where
     sized : length (gather cell_words (lower_cells lane (later_cells beats s₀ end left₀))) ≡ 6 * length (lower_cells lane (later_cells beats s₀ end left₀))
     sized = length-cell_words (lower_cells lane (later_cells beats s₀ end left₀))
@@ -115,9 +112,6 @@ module _ {s₀ : List ℕ} {to lane beats end left₀ : ℕ} (a : LowerAsks s₀
     module _ (more : 0 < left) where
       pub lower-place : 6 * left ≤ end
       lower-place = omega (arith, a.run.cells_in, l.few)
-
-      pub lower-inside : end - 6 * left + 6 ≤ length s
-      lower-inside = omega (arith, lower-place, a.run.inside, l.writes.long)
 
       module _ {c : Cell} (is : c ≡ cell_at s (end - 6 * left)) where
         first : last_cells s₀ end left ≡ c ∷ last_cells s₀ end (left - 1)
@@ -232,9 +226,6 @@ module _ {s₀ : List ℕ} {to beats : ℕ} {first second : Contents} (a : Joine
   abbrev all : List Cell
   all = cells_joined beats s₀ first second first.cells.left second.cells.left
 
-  pub joining_start : Joining s₀ s₀ to beats first second to first.cells.left second.cells
-  joining_start = record { few = omega arith; rest_end = refl; rest_few = omega arith; writes = writes_start s₀ to _ }
-
   module _ {s : List ℕ} {at left : ℕ} {rest : Last 6} (l : Joining s₀ s to beats first second at left rest) where
     all_sized : length (gather cell_words all) ≡ 6 * length all
     all_sized = length-cell_words all
@@ -265,9 +256,6 @@ module _ {s₀ : List ℕ} {to beats : ℕ} {first second : Contents} (a : Joine
     module _ (more : 0 < left) where
       pub first_place : 6 * left ≤ first.cells.end
       first_place = omega (arith, first.cells.fits, l.few)
-
-      pub first-room : first.cells.end - 6 * left + 6 ≤ length s
-      first-room = omega (arith, first_place, a.first-inside, l.writes.long)
 
       module _ {c : Cell} (is : c ≡ cell_at s (first.cells.end - 6 * left)) where
         next_cell : last_cells s₀ first.cells.end left ≡ c ∷ last_cells s₀ first.cells.end (left - 1)

@@ -50,10 +50,6 @@ module _ (h : Header) (k : ℕ) (c d : Cell) {b : Bool} (is : b ≡ bound_at h k
       let all : x + y ≡ one (stands_alone h c) + one (stands_alone h d) + 0 = omega (arith, f ∙ ap one e, f' ∙ ap one e') in
       rw (sym is ∙ not-false b t, all)
 
--- two cells that stand alone
-pub two_few : (h : Header) (c d : Cell) {p q : Bool} {x y : ℕ} → p ≡ stands_alone h c → x ≡ one p → q ≡ stands_alone h d → y ≡ one q → x + y ≤ 2
-two_few h c d e f e' f' = omega (arith, f ∙ ap one e, f' ∙ ap one e', one_few (stands_alone h c), one_few (stands_alone h d))
-
 -- ---- the cells of a lane
 
 module _ {s : List ℕ} {r : CellRun} (a : RunAhead s r) where
@@ -75,10 +71,6 @@ module _ {s : List ℕ} {r : CellRun} (a : RunAhead s r) where
   run_empty e = nothing (run_cells s r) (omega (arith, counted))
 
   module _ (some : r.rest.left ≡ r.cells.left → ⊥) where
-    -- the places of its last and its first cell
-    pub last-place : (6 * (r.rest.left + 1) ≤ r.cells.end) × (r.cells.end - 6 * (r.rest.left + 1) + 6 ≤ length s)
-    last-place = (omega (arith, r.cells.fits, a.fewer), omega (arith, r.cells.fits, a.fewer, a.inside))
-
     pub first_place : (6 * r.cells.left ≤ r.cells.end) × (r.cells.end - 6 * r.cells.left + 6 ≤ length s)
     first_place = (omega (arith, r.cells.fits), omega (arith, r.cells.fits, a.fewer, a.inside))
 
@@ -165,10 +157,6 @@ pub record Counting (s : List ℕ) (h : Header) (beats : ℕ) (first second : Co
 module _ {s : List ℕ} {h : Header} {beats : ℕ} {first second : Contents} (a : SeamsAsks s h beats first second) where
   abbrev all : List (Cell × Cell)
   all = seams h beats (last_cells s first.cells.end first.cells.left) (last_cells s second.cells.end second.cells.left)
-
-  pub counting_start : Counting s h beats first second first.cells second.cells 0 0
-  counting_start =
-      record { left_in = a.first-inside; over_in = a.second_inside; lane = 0; left-from = a.first-from; over_from = a.second_from; pairs_are = omega arith; alone_are = omega arith }
 
   module _ {left over : Last 6} {pairs alone : ℕ} (l : Counting s h beats first second left over pairs alone) where
     abbrev cs : List Cell

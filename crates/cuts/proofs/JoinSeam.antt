@@ -8,7 +8,7 @@ use borrow.Author.Tests.{eq-eqb, eqb-true, eqb-false, ne_eqb, leb-true, leb-fals
 use lib.Dec.{leb, eqb}
 use lib.ListN.{length, length-append}
 use Rattle.words.specs.Splice.{splice}
-use Rattle.words.specs.Writes.{Writes, writes_start, writes-run, writes-done, writes_same}
+use Rattle.words.specs.Writes.{Writes, writes-run, writes-done, writes_same}
 use Rattle.words.specs.Parts.{Same}
 use Rattle.model.specs.Binding.{bound, stands_alone}
 use Rattle.model.specs.Lists.{gather}
@@ -96,9 +96,6 @@ pub record Running (s₀ s : List ℕ) (to lane ticks end left₀ at left : ℕ)
   pub rest : note_rest lane (last_notes s₀ end left) ≡ note_rest lane (last_notes s₀ end left₀)
 
 module _ {s₀ : List ℕ} {to lane ticks end left₀ : ℕ} (a : NoteRunAsks s₀ to lane ticks end left₀) where
-  pub running_start : Running s₀ s₀ to lane ticks end left₀ to left₀
-  running_start = record { few = omega arith; place = refl; writes = writes_start s₀ to _; rest = refl }
-
   module _ {s : List ℕ} {at left : ℕ} (l : Running s₀ s to lane ticks end left₀ at left) where
     sized : length (gather note_words (later_run lane ticks s₀ end left₀)) ≡ 4 * length (later_run lane ticks s₀ end left₀)
     sized = length-note_words (later_run lane ticks s₀ end left₀)
@@ -109,9 +106,6 @@ module _ {s₀ : List ℕ} {to lane ticks end left₀ : ℕ} (a : NoteRunAsks s�
     module _ (more : 0 < left) where
       pub run-place : 4 * left ≤ end
       run-place = omega (arith, a.notes_in_lem, l.few)
-
-      pub run_inside : end - 4 * left + 4 ≤ length s
-      run_inside = omega (arith, run-place, a.inside, l.writes.long)
 
       module _ {n : Note} (is : n ≡ note_at s (end - 4 * left)) where
         first : last_notes s₀ end left ≡ n ∷ last_notes s₀ end (left - 1)
@@ -287,19 +281,8 @@ last-cell s lane end d left r fits =
     last_of_run (λ c. c.lane) lane (last_cells s end) (λ k. cell_at s (end - 6 * k)) left (λ k more few. last_cells_lem s end k more (omega arith)) d left r (omega arith)
 
 module _ {s : List ℕ} {end left r : ℕ} (h : Header) (line : ℕ) (c : Cell) (a : RunRead s c.lane end left r) where
-  pub up_none : r ≡ left → ending_at line c ≡ up_to h line c (note_run c.lane (last_notes s end left))
-  up_none e =
-      let none : note_run c.lane (last_notes s end left) ≡ [] = nothing (note_run c.lane (last_notes s end left)) (omega (arith, a.count)) in
-      rw none (either (stands_alone h c) (ending_at line c))
-
   module _ {b : Bool} (is : b ≡ stands_alone h c) where
-    pub up_short : b ≡ false → ending_at line c ≡ up_to h line c (note_run c.lane (last_notes s end left))
-    up_short e = rw (sym is ∙ e)
-
     module _ (d : r ≡ left → ⊥) where
-      pub up_inside : (4 * (r + 1) ≤ end) × (end - 4 * (r + 1) + 4 ≤ length s)
-      up_inside = (omega (arith, a.count, a.notes_in_lem), omega (arith, a.count, a.notes_in_lem, a.inside))
-
       pub up_last : b ≡ true → {n : Note} → n ≡ note_at s (end - 4 * (r + 1)) → n ≡ up_to h line c (note_run c.lane (last_notes s end left))
       up_last e f = rw (sym is ∙ e) (f ∙ sym (last-note s c.lane end (ending_at line c) left r a.notes_in_lem a.count (omega (arith, a.count))))
 
@@ -321,18 +304,10 @@ module _ (s : List ℕ) (end left : ℕ) (h : Header) (d : Cell) where
     on_other o = none_on (ap (note_run d.lane) on_first ∙ run_stop (λ n. n.lane) d.lane n (last_notes s end (left - 1)) o)
 
     module _ {b : Bool} (alone : b ≡ stands_alone h d) where
-      pub on_short : b ≡ false → starting_at0 d ≡ from_on h d ahead
-      on_short e = rw (sym alone ∙ e)
-
       pub on_note : b ≡ true → n.lane ≡ d.lane → n ≡ from_on h d ahead
       on_note e o =
           let run : ahead ≡ n ∷ note_run d.lane (last_notes s end (left - 1)) = ap (note_run d.lane) on_first ∙ run_go (λ n. n.lane) d.lane n (last_notes s end (left - 1)) o in
           rw (sym alone ∙ e, run)
-
--- a cell that began before the first take begins here at its first tick
-pub ending_low : (lane line before velocity : ℕ) → line < before
-    → ◌≡◌ {A = Note} (record { lane = lane; start = 0; end = line; velocity = velocity }) (record { lane = lane; start = line - before; end = line; velocity = velocity })
-ending_low lane line before velocity less = let z : line - before ≡ 0 = omega arith in rw z
 
 -- ---- the seam
 
@@ -342,9 +317,6 @@ module _ {s : List ℕ} {h : Header} {line : ℕ} {c d : Cell} {end left rest ot
 
   abbrev ns : List Note
   ns = note_run d.lane (last_notes s other count)
-
-  pub over_end : {m : Note} → m ≡ from_on h d ns → m.end + line ≤ 4294967295
-  over_end e = rw e a.end_word
 
   pub over_is : {n m : Note} {b g : Bool} → n ≡ up_to h line c ms → m ≡ from_on h d ns → b ≡ stands_alone h c → g ≡ stands_alone h d
       → ◌≡◌ {A = Seam} (record { held = b; skipped = g; note = record { lane = n.lane; start = n.start; end = m.end + line; velocity = n.velocity } })

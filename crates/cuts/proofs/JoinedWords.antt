@@ -6,7 +6,6 @@ use native.Mathlib.Omega.{arith}
 use lib.ListN.{length}
 use Rattle.words.specs.Splice.{splice, length-splice}
 use Rattle.model.specs.Lists.{gather}
-use Rattle.model.specs.Limits.{max_beats}
 use Rattle.model.specs.Takes.{Take, cell_words, join_takes, note_words, notes_of, words_of}
 use Rattle.model.specs.Questions.{take_at}
 use Rattle.model.specs.Session.{shelf_at}
@@ -42,15 +41,9 @@ module _ {s : List ℕ} {h : Header} {i j k : ℕ} (p : PutAsks s h i j k) where
   room : 3 + 4 * length (notes_of h both) + 6 * length both.cells ≤ h.words
   room = take-room h both p.fit
 
-  pub beats_room : {x y : ℕ} → x ≡ t.beats → y ≡ u.beats → x + y ≤ max_beats
-  beats_room e f = omega (arith, e, f, a.beats_few)
-
   module _ {first second : Contents} (r : Read (first_read a) first) (q : Read (second_read a) second) {at : ℕ} (place : at ≡ shelf_at h k) {x : ℕ} (m : x ≡ t.beats) where
     inside : at + h.words ≤ length s
     inside = omega (arith, place, shelf-inside h k (length s) (range a) a.to_below)
-
-    pub notes-place : at + 3 ≤ length s
-    notes-place = omega (arith, inside, room)
 
     pub notes_asks : JoinNotesAsks s (at + 3) h x first second
     notes_asks = rw m (join-notes_asks a r q (at + 3) (omega (arith, place)) (omega (arith, place, room)))

@@ -200,9 +200,6 @@ module _ {s : List ℕ} {h : Header} {beats line lane : ℕ} {first : Contents} 
     seam_other o = no_second (ap (cell_run lane) second_first ∙ run_stop (λ c. c.lane) lane d others o)
 
     module _ (there : cells ≡ first.cells.left → ⊥) where
-      pub last-inside : (6 * (cells + 1) ≤ first.cells.end) × (first.cells.end - 6 * (cells + 1) + 6 ≤ length s)
-      last-inside = (omega (arith, a.cells_count, first.cells.fits), omega (arith, a.cells_count, first.cells.fits, a.cells-inside))
-
       module _ {c : Cell} (c-is : c ≡ cell_at s (first.cells.end - 6 * (cells + 1))) (on : d.lane ≡ lane) where
         last_is : (x : Cell) → last_or x cs ≡ c
         last_is x = last-cell s lane first.cells.end x first.cells.left cells first.cells.fits a.cells_count (omega (arith, a.cells_count)) ∙ sym c-is

@@ -2,7 +2,6 @@
 use mathlib.Core.Path.{◌≡◌, refl, sym, ap, subst, ◌∙◌}
 use mathlib.Core.List.{List, [], ◌++◌}
 use Prim.Native.Nat.{ℕ, suc, ◌+◌, ◌-◌, ◌*◌, ◌≤◌, ◌<◌}
-use native.Mathlib.Nat.{mul-le-mul}
 use native.Mathlib.Omega.{arith}
 use lib.ListN.{length, length-append}
 use Rattle.words.specs.Apart.{Apart, apart-within}
@@ -21,7 +20,7 @@ use Rattle.session.specs.Reading.{last_notes, last_cells}
 use Rattle.cuts.specs.declared.halves.Contents.{Contents}
 use Rattle.cuts.specs.declared.lanes.Rests.{Rests}
 use Rattle.cuts.specs.Halving.{Noted, Placed}
-use Rattle.cuts.specs.Seams.{Shiftable, InPlace}
+use Rattle.cuts.specs.Seams.{Shiftable}
 use Rattle.cuts.specs.LaneNotes.{Reaching, notes_from, cells_from, lane_joined, lanes_joined, Joinable, LeftOf, LanePut, JoinNotesAsks}
 use Rattle.cuts.proofs.JoinCells.{all-last}
 use Rattle.cuts.proofs.JoinSeam.{all-last_notes}
@@ -119,9 +118,6 @@ module _ {s₀ : List ℕ} {to : ℕ} {h : Header} {beats : ℕ} {first second :
   abbrev all : List Note
   all = lanes_joined h beats s₀ first second
 
-  pub line_word : line ≤ 4294967295
-  line_word = omega (arith, mul-le-mul a.beats_few a.ticks_few)
-
   pub walk_start : Walked s₀ s₀ to h beats first second (record { at = to; first = first; second = second }) 0
   walk_start = record { first_in = within_all first; second_in = within_all second; lanes = a.four; writes = writes_start s₀ to _ }
 
@@ -139,21 +135,11 @@ module _ {s₀ : List ℕ} {to : ℕ} {h : Header} {beats : ℕ} {first second :
         let p = a.joinable.second_placed in
         still_within w.second_in (still_by p (writes_same w.writes (subst (λ (n : ℕ). Apart p.low (second.cells.end - p.low) to n) (sym size) p.apart)))
 
-    place_in : {r : Contents} {n : ℕ} → Placed s r rests.at n → InPlace s r
-    place_in p = record {
-      notes-inside = omega (arith, p.order, p.inside);
-      cells-inside = p.inside;
-    }
-
     first-placed : (n : ℕ) → rests.at + n ≤ to + 4 * length all → Placed s rests.first rests.at n
     first-placed n fits = placed-within w.first_in a.joinable.first-placed w.writes.long rests.at n w.writes.low fits
 
     second_placed : (n : ℕ) → rests.at + n ≤ to + 4 * length all → Placed s rests.second rests.at n
     second_placed n fits = placed-within w.second_in a.joinable.second_placed w.writes.long rests.at n w.writes.low fits
-
-    pub both_in : InPlace s rests.first × InPlace s rests.second
-    both_in =
-        (place_in (first-placed 0 (omega (arith, w.writes.place, size))), place_in (second_placed 0 (omega (arith, w.writes.place, size))))
 
     -- the lane that is next
     module _ {lane : ℕ} (e : lane ≡ least s rests.first rests.second) where

@@ -185,9 +185,6 @@ module _ {s : List ℕ} {to : ℕ} {h : Header} {beats line : ℕ} (lane : ℕ) 
         second_still₂ : Still s s₂ second
         second_still₂ = still j.second_placed (gather note_words all) (omega (arith, length-note_words all)) words₂
 
-        pub second_cells_asks : second.cells.end ≤ length s₂
-        second_cells_asks = omega (arith, j.second_placed.inside, long₂)
-
         pub back_few : rest ≤ left
         back_few = omega (arith, q.count)
 

@@ -20,12 +20,7 @@ use Rattle.session.proofs.Lasts.{no_cells, cons}
 use Rattle.std.proofs.Math.Bridge.{le_prop}
 use Rattle.cuts.specs.declared.halves.Contents.{Contents}
 use Rattle.cuts.specs.declared.halves.Half.{Half}
-use Rattle.cuts.specs.declared.halves.Side.TheVariants.{Left}
-use Rattle.cuts.specs.Halving.{is_right, contents_by, left_half, passed, line_cell, crossed_note, crossed_by, across_parts, note_part, Noted}
-
--- the left half of a split at beat 0
-pub left-none : (δ k : ℕ) → k ≡ 0 → ◌≡◌ {A = Half} (record { side = Left; beat = 0; line = 0; edge = 0; beats = 0 }) (left_half δ k)
-left-none δ k e = let z : 0 * δ ≡ 0 = omega arith in rw (e, z)
+use Rattle.cuts.specs.Halving.{is_right, contents_by, passed, line_cell, crossed_note, crossed_by, across_parts, note_part, Noted}
 
 -- the same notes and cells
 pub contents_same : (at N C : ℕ) (p : 4 * N ≤ at + 3 + 4 * N) (q : 6 * C ≤ at + 3 + 4 * N + 6 * C)

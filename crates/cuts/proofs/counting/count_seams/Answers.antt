@@ -1,6 +1,6 @@
 -- `cuts::counting::count_seams` meets its contract. The measure is how many cells are left of both takes.
 use native.Mathlib.Omega.{arith}
-use Rattle.cuts.proofs.JoinCounts.{counting_start, seams_counted, fewer_cells, pairs-room, alone-room, counting_lane}
+use Rattle.cuts.proofs.JoinCounts.{seams_counted, fewer_cells, pairs-room, alone-room, counting_lane}
 use Rattle.cuts.proofs.counting.count_seams.Goals as goal
 
 pub overflow_add-pairs : goal.overflow_add-pairs

@@ -1,6 +1,5 @@
 -- `cuts::counting::lane_count` meets its contract.
-use native.Mathlib.Omega.{arith}
-use Rattle.cuts.proofs.JoinCounts.{counted_none, no_first, no_second, lane_pair, last-place, first_place}
+use Rattle.cuts.proofs.JoinCounts.{counted_none, no_first, no_second, lane_pair}
 use Rattle.cuts.proofs.counting.lane_count.Goals as goal
 
 pub returns-then-first : goal.returns-then-first

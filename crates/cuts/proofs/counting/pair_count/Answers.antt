@@ -1,8 +1,7 @@
 -- `cuts::counting::pair_count` meets its contract.
 use mathlib.Core.Path.{ap}
 use mathlib.Core.Bool.{not}
-use native.Mathlib.Omega.{arith}
-use Rattle.cuts.proofs.JoinCounts.{counted_none, not_bound, one_pair, two_few}
+use Rattle.cuts.proofs.JoinCounts.{counted_none, not_bound, one_pair}
 use Rattle.cuts.proofs.counting.pair_count.Goals as goal
 
 pub returns-then-not-bound_over : goal.returns-then-not-bound_over

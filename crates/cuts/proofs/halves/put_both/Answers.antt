@@ -1,5 +1,4 @@
 -- `cuts::halves::put_both` meets its contract.
-use native.Mathlib.Omega.{arith}
 use Rattle.session.proofs.Sources.{place_asks}
 use Rattle.cuts.proofs.HalfWords.{range, read, contents_asks}
 use Rattle.cuts.proofs.SplitWords.{notes_asks, cells_asks, left_counts, right_counts, both-put}

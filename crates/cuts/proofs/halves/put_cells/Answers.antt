@@ -1,6 +1,6 @@
 -- `cuts::halves::put_cells` meets its contract.
 use native.Mathlib.Omega.{arith}
-use Rattle.cuts.proofs.BothPasses.{celling_start, cell_place, cell_room, cell_asks, celling_cell, cells-done}
+use Rattle.cuts.proofs.BothPasses.{celling_start, cell_asks, celling_cell, cells-done}
 use Rattle.cuts.proofs.halves.put_cells.Goals as goal
 
 pub loop-left-init : goal.loop-left-init

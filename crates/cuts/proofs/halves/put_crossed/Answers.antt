@@ -1,5 +1,5 @@
 -- `cuts::halves::put_crossed` meets its contract.
-use Rattle.cuts.proofs.BothParts.{on_asks, found_on, left_asks, right_asks, crossed_put}
+use Rattle.cuts.proofs.BothParts.{found_on, left_asks, right_asks, crossed_put}
 use Rattle.cuts.proofs.halves.put_crossed.Goals as goal
 
 pub put_across-left-requires : goal.put_across-left-requires

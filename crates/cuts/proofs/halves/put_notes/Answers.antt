@@ -1,6 +1,6 @@
 -- `cuts::halves::put_notes` meets its contract.
 use native.Mathlib.Omega.{arith}
-use Rattle.cuts.proofs.BothPasses.{noting_start, note-place, note-room, parts_asks, noting_note, notes-done}
+use Rattle.cuts.proofs.BothPasses.{noting_start, parts_asks, noting_note, notes-done}
 use Rattle.cuts.proofs.halves.put_notes.Goals as goal
 
 pub loop-left-init : goal.loop-left-init

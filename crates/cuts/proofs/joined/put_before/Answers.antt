@@ -1,6 +1,6 @@
 -- `cuts::joined::put_before` meets its contract.
 use native.Mathlib.Omega.{arith}
-use Rattle.cuts.proofs.JoinCells.{lower_asks, fewer, behind-lower, before-put}
+use Rattle.cuts.proofs.JoinCells.{lower_asks, behind-lower, before-put}
 use Rattle.cuts.proofs.joined.put_before.Goals as goal
 
 pub put_lower-rest-requires : goal.put_lower-rest-requires

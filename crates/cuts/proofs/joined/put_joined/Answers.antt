@@ -1,9 +1,8 @@
 -- `cuts::joined::put_joined` meets its contract.
-use native.Mathlib.Omega.{arith}
 use Rattle.session.proofs.Sources.{place_asks}
 use Rattle.cuts.proofs.HalfWords.{read, contents_asks}
 use Rattle.cuts.proofs.JoinWords.{range, first_read, second_read}
-use Rattle.cuts.proofs.JoinedWords.{beats_room, notes-place, notes_asks, cells_asks, counts_asks, join-put}
+use Rattle.cuts.proofs.JoinedWords.{notes_asks, cells_asks, counts_asks, join-put}
 use Rattle.cuts.proofs.joined.put_joined.Goals as goal
 
 pub shelf_at-requires : goal.shelf_at-requires

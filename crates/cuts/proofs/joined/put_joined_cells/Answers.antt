@@ -1,7 +1,7 @@
 -- `cuts::joined::put_joined_cells` meets its contract.
 use mathlib.Core.Path.{refl}
 use native.Mathlib.Omega.{arith}
-use Rattle.cuts.proofs.JoinCells.{joining_start, first_place, first-room, before_asks, some_fewer, at_room, joining_cell, last_asks, joined-room, joined-done}
+use Rattle.cuts.proofs.JoinCells.{before_asks, some_fewer, at_room, joining_cell, last_asks, joined-room, joined-done}
 use Rattle.cuts.proofs.joined.put_joined_cells.Goals as goal
 
 pub put_before-next-requires : goal.put_before-next-requires

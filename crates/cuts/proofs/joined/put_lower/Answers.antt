@@ -1,6 +1,6 @@
 -- `cuts::joined::put_lower` meets its contract.
 use native.Mathlib.Omega.{arith}
-use Rattle.cuts.proofs.JoinCells.{lowering_start, lower-place, lower-inside, lower_movable, lower-room, lowering_cell, lowered_stop, lowered_end}
+use Rattle.cuts.proofs.JoinCells.{lower_movable, lower-room, lowering_cell, lowered_stop, lowered_end}
 use Rattle.cuts.proofs.joined.put_lower.Goals as goal
 
 pub overflow_add-beats : goal.overflow_add-beats

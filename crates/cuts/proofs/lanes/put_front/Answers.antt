@@ -1,5 +1,5 @@
 -- `cuts::lanes::put_front` meets its contract.
-use Rattle.cuts.proofs.LaneWrites.{first_asks, cell_run_asks, count_few, seam_asks, put_asks, first_behind, first-put}
+use Rattle.cuts.proofs.LaneWrites.{first_asks, seam_asks, put_asks, first_behind, first-put}
 use Rattle.cuts.proofs.lanes.put_front.Goals as goal
 
 pub put_note_run-notes-requires : goal.put_note_run-notes-requires

@@ -1,6 +1,6 @@
 -- `cuts::lanes::put_joined_notes` meets its contract. The measure is how many lanes are left.
 use native.Mathlib.Omega.{arith}
-use Rattle.cuts.proofs.LaneWalk.{line_word, walk_start, both_in, walk_next, walk_later, walk-done, lane_asks, walk-lane}
+use Rattle.cuts.proofs.LaneWalk.{walk_start, walk_next, walk_later, walk-done, lane_asks, walk-lane}
 use Rattle.cuts.proofs.lanes.put_joined_notes.Goals as goal
 
 pub loop-lane-init : goal.loop-lane-init

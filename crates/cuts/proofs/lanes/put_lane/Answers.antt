@@ -1,6 +1,6 @@
 -- `cuts::lanes::put_lane` meets its contract.
 use native.Mathlib.Omega.{arith}
-use Rattle.cuts.proofs.LaneWrites.{back_asks, second_asks, second_cells_asks, behind-room, second_behind, lane-put}
+use Rattle.cuts.proofs.LaneWrites.{second_asks, behind-room, second_behind, lane-put}
 use Rattle.cuts.proofs.lanes.put_lane.Goals as goal
 
 pub put_note_run-notes-requires : goal.put_note_run-notes-requires

@@ -1,8 +1,7 @@
 -- `cuts::lanes::seam_of` meets its contract.
 use mathlib.Core.Path.{ap}
 use mathlib.Core.Bool.{not}
-use native.Mathlib.Omega.{arith}
-use Rattle.cuts.proofs.LaneSeam.{seam_no_first, seam_no_second, seam_other, last-inside, seam_unbound, over_asks, seam_bound}
+use Rattle.cuts.proofs.LaneSeam.{seam_no_first, seam_no_second, seam_other, seam_unbound, over_asks, seam_bound}
 use Rattle.cuts.proofs.lanes.seam_of.Goals as goal
 
 pub returns-then-rest-first : goal.returns-then-rest-first

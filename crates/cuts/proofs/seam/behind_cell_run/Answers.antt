@@ -1,6 +1,6 @@
 -- `cuts::seam::behind_cell_run` meets its contract.
 use native.Mathlib.Omega.{arith}
-use mathlib.Core.Path.{refl, ◌∙◌}
+use mathlib.Core.Path.{◌∙◌}
 use Rattle.cuts.proofs.JoinSeam.{cells_go, cells_stop, cells_end}
 use Rattle.cuts.proofs.seam.behind_cell_run.Goals as goal
 

@@ -1,6 +1,6 @@
 -- `cuts::seam::from_on` meets its contract.
 use mathlib.Core.Path.{◌∙◌}
-use Rattle.cuts.proofs.JoinSeam.{on_end, on_other, on_short, on_note}
+use Rattle.cuts.proofs.JoinSeam.{on_end, on_other, on_note}
 use Rattle.cuts.proofs.seam.from_on.Goals as goal
 
 pub returns-then-notes-eq0 : goal.returns-then-notes-eq0

@@ -1,6 +1,6 @@
 -- `cuts::seam::put_note_run` meets its contract.
 use native.Mathlib.Omega.{arith}
-use Rattle.cuts.proofs.JoinSeam.{running_start, run-place, run_inside, run_shiftable, run_room, running_note, run_over, run_end}
+use Rattle.cuts.proofs.JoinSeam.{run_shiftable, run_room, running_note, run_over, run_end}
 use Rattle.cuts.proofs.seam.put_note_run.Goals as goal
 
 pub overflow_add-n : goal.overflow_add-n

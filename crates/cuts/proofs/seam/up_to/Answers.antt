@@ -1,7 +1,5 @@
 -- `cuts::seam::up_to` meets its contract.
-use native.Mathlib.Omega.{arith}
-use mathlib.Core.Path.{◌∙◌}
-use Rattle.cuts.proofs.JoinSeam.{up_none, up_short, up_inside, up_last}
+use Rattle.cuts.proofs.JoinSeam.{up_last}
 use Rattle.cuts.proofs.seam.up_to.Goals as goal
 
 pub returns-then-stands_alone : goal.returns-then-stands_alone
