@@ -85,6 +85,7 @@ fn count_seams(s: &[u32], h: Header, beats: u32, first: Contents, second: Conten
     let mut over = second.cells;
     let mut pairs = 0;
     let mut alone = 0;
+    // No range: each turn goes behind all cells of a lane.
     while 0 < left.left {
         let lane = left.lane(s).min(over.lane(s));
         let a = cell_run(s, lane, left);

@@ -41,20 +41,11 @@ pub fn left_half(delta: u32, beat: u32) -> Half
     requires { (delta ≤ max_delta) × (beat ≤ max_beats) }
     ensures { result ≡ left_half delta beat }
 {
-    if beat == 0 {
-        return Half {
-            side: Side::Left,
-            beat: 0,
-            line: 0,
-            edge: 0,
-            beats: 0,
-        };
-    }
     Half {
         side: Side::Left,
         beat,
         line: beat * delta,
-        edge: beat - 1,
+        edge: beat.saturating_sub(1),
         beats: beat,
     }
 }
@@ -182,7 +173,7 @@ pub struct Ends {
     pub right: usize,
 }
 
-// Where each half's next note goes, and how many cells are left among which the left half's closing cells on the line are looked for, and
+// Where each half's next note goes, and how many cells, up to the same place, are left among which the left half's closing cells on the line are looked for, and
 // the right half's opening cells.
 #[derive(Drop)]
 pub struct Cursors {

@@ -11,6 +11,7 @@ use model::{Cell, Header, Note};
 use session::{notes, rules};
 
 // The notes of a lane in front of the last notes, so many ticks later. Returns those that are left.
+// One generic function for this and joined::put_lower is no plainer: it would take three closures, for reading, the test and the words.
 pub fn put_note_run(s: &mut [u32], to: usize, lane: u32, ticks: u32, notes: Notes) -> Notes
     requires { NoteRunAsks s.old to lane ticks notes.end notes.left }
     ensures put { NoteRunPut s.old to lane ticks notes.end notes.left s.new result.left }
@@ -77,17 +78,9 @@ pub struct Line {
 fn ending(line: u32, c: Cell) -> Note
     ensures { result ≡ ending_at line c }
 {
-    if line < c.before {
-        return Note {
-            lane: c.lane,
-            start: 0,
-            end: line,
-            velocity: c.velocity,
-        };
-    }
     Note {
         lane: c.lane,
-        start: line - c.before,
+        start: line.saturating_sub(c.before),
         end: line,
         velocity: c.velocity,
     }
