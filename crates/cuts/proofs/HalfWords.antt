@@ -46,6 +46,12 @@ module _ (h : Header) where
       go true e = ahead (omega (arith, suc-mul i h.words, mul-le-mul_right h.words (leb-true (suc i) j e)))
       go false e = let less : suc j ≤ i = omega (arith, leb-false (suc i) j e) in behind (omega (arith, suc-mul j h.words, mul-le-mul_right h.words less))
 
+-- the place of a shelf, whose counts are read
+pub counts_place : {n : ℕ} {h : Header} {i : ℕ} → InRange h n → i < h.shelves → {at : ℕ} → at ≡ shelf_at h i → (at ≤ max_session) × (at + 3 ≤ n)
+counts_place {n} {h} {i} r below e =
+    let inside = shelf-inside h i n r below in
+    rw e (omega (arith, inside, r.exact, mul-le-mul r.few_shelves r.small), omega (arith, inside, r.large))
+
 -- ---- cells
 
 keep-gather : (p : Cell → Bool) (cs : List Cell) → keep p cs ≡ gather (λ c. cons_if (p c) c []) cs
@@ -121,13 +127,13 @@ module _ {s : List ℕ} {h : Header} {v : Half} {i j : ℕ} (a : HalfAsks s h v 
       behind-notes : last_cells ws (3 + 4 * N + 6 * C) C ≡ t.cells
       behind-notes = let place : 3 + 4 * N + 6 * C - 6 * C ≡ 3 + 4 * N = omega arith in rw (place, e, f)
 
-  pub read : {from : Contents} {at : ℕ} → at ≡ shelf_at h i → from ≡ contents_at s at → Read from
+  pub read : {from : Contents} → from ≡ contents_at s (shelf_at h i) → Read from
   unfolding contents_at
-  read {from} {at} e f =
+  read {from} f =
       let N : word s (shelf_at h i + 1) ≡ word ws 1 = sym (word_is 1 (omega (arith, range.large))) in
       let C : word s (shelf_at h i + 2) ≡ word ws 2 = sym (word_is 2 (omega (arith, range.large))) in
       let few : 3 + 4 * word s (shelf_at h i + 1) + 6 * word s (shelf_at h i + 2) ≤ h.words = omega (arith, used, N, C) in
-      rw (f, e)
+      rw f
       (record {
         middle_is = refl;
         end_is = refl;
@@ -166,9 +172,6 @@ module _ {s : List ℕ} {h : Header} {v : Half} {i j : ℕ} (a : HalfAsks s h v 
   room = take-room h half half-fits
 
   -- ---- what the functions ask
-
-  pub contents_asks : {at : ℕ} → at ≡ shelf_at h i → (at ≤ max_session) × (at + 3 ≤ length s)
-  contents_asks e = rw e (omega (arith, source_inside, range.exact, mul-le-mul range.few_shelves range.small), omega (arith, source_inside, range.large))
 
   module _ {from : Contents} (r : Read from) where
     pub notes_left_lem : notes_left h v s from from.notes.left from.cells.left ≡ notes_of h half

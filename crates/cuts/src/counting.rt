@@ -10,9 +10,9 @@ ghost use Rattle.cuts.specs.Counting.{count_of, pair_at, run_cells, RunAhead, Ru
 
 use crate::halves::Contents;
 use crate::lasts::Cells;
-use crate::{halves, seam};
+use crate::{halves, joined, seam};
 use model::{Cell, Header};
-use session::{header, notes, rules};
+use session::{notes, rules};
 
 // ---- the pair of a lane
 
@@ -124,12 +124,11 @@ pub fn join_fits(s: &[u32], h: Header, first: u32, second: u32) -> bool
     requires { FitAsks s.now h first second }
     ensures { result ≡ fits h (join_takes h.delta (take_at h s.now first) (take_at h s.now second)) }
 {
-    let at = header::shelf_at(h, first);
-    let a = halves::contents_at(s, at);
-    let b = halves::contents_at(s, header::shelf_at(h, second));
+    let a = halves::contents_of(s, h, first);
+    let b = halves::contents_of(s, h, second);
     if counts_fit(h, a, b, most_pairs(a, b), 0) {
         return true;
     }
-    let seams = count_seams(s, h, s[at], a, b);
+    let seams = count_seams(s, h, joined::beats_at(s, h, first), a, b);
     counts_fit(h, a, b, seams.pairs, seams.alone)
 }

@@ -1,11 +1,11 @@
 // Both halves of a take, written into two other shelves of the session in one pass over the take's own notes and cells.
-ghost use Rattle.std.specs.Prelude.{◌≡◌, cond, ◌+◌, ◌-◌, ◌*◌, ◌/◌, ◌≤◌, ◌<◌, ltb, length};
+ghost use Rattle.std.specs.Prelude.{◌≡◌, cond, true, ◌+◌, ◌-◌, ◌*◌, ◌/◌, ◌≤◌, ◌<◌, ltb, length};
 ghost use Rattle.words.specs.Splice.{splice};
 ghost use Rattle.model.specs.Limits.{max_beats, max_delta};
 ghost use Rattle.model.specs.Lists.{gather};
 ghost use Rattle.model.specs.Takes.{note_words, cell_words, cell_to, words_of};
 ghost use Rattle.model.specs.Session.{shelf_at};
-ghost use Rattle.model.specs.Questions.{take_at};
+ghost use Rattle.model.specs.Questions.{header_ok, take_at};
 ghost use Rattle.laws.specs.Cutting.{closing_cell, first_cell};
 ghost use Rattle.session.specs.Framing.{framed};
 ghost use Rattle.session.specs.Reading.{last_cells};
@@ -97,6 +97,14 @@ pub fn contents_at(s: &[u32], at: usize) -> Contents
     ensures { result ≡ contents_at s.now at }
 {
     counted(at, s[at + 1], s[at + 2])
+}
+
+// The notes and cells of the take in a shelf.
+pub fn contents_of(s: &[u32], h: Header, take: u32) -> Contents
+    requires { (header_ok h (length s.now) ≡ true) × (take < h.shelves) }
+    ensures { result ≡ contents_at s.now (shelf_at h take) }
+{
+    contents_at(s, header::shelf_at(h, take))
 }
 
 // ---- notes
@@ -360,7 +368,7 @@ pub fn put_both(
     requires { BothAsks s.old h before behind take left right }
     ensures { s.new ≡ splice (splice s.old (shelf_at h left) (words_of h (half_of h.delta before (take_at h s.old take)))) (shelf_at h right) (words_of h (half_of h.delta behind (take_at h s.old take))) }
 {
-    let from = contents_at(s, header::shelf_at(h, take));
+    let from = contents_of(s, h, take);
     let l = header::shelf_at(h, left);
     let r = header::shelf_at(h, right);
     let first = Ends {

@@ -101,8 +101,8 @@ pub fn put_joined(s: &mut [u32], h: Header, first: u32, second: u32, res: u32)
 {
     let beats = beats_at(s, h, first);
     let total = beats + beats_at(s, h, second);
-    let a = halves::contents_at(s, header::shelf_at(h, first));
-    let b = halves::contents_at(s, header::shelf_at(h, second));
+    let a = halves::contents_of(s, h, first);
+    let b = halves::contents_of(s, h, second);
     let at = header::shelf_at(h, res);
     let middle = lanes::put_joined_notes(s, at + 3, h, beats, a, b);
     let end = put_joined_cells(s, middle, beats, a, b);
