@@ -35,7 +35,8 @@ fn put_first(s: &mut [u32], at: usize, n: Note, beat: u32, line: u32) -> usize
     at + 6
 }
 
-// The cell on the closing line of a note's last beat, if the note ends there. Returns the place behind it.
+// The cell on the closing line of a note's last beat, if the note ends there. Returns the place behind it. One function for this and put_first
+// is no plainer: it would look at both ends of the note at either line.
 fn put_last(s: &mut [u32], at: usize, n: Note, beat: u32, line: u32) -> usize
     requires { (at + 6 * length (touched_cells n beat 1 line) ≤ length s.old) × (n.start ≤ line) }
     ensures { Made s.old at (touched_cells n beat 1 line) s.new result }

@@ -1,7 +1,8 @@
 // The last notes, or the last cells, of those that stand up to a place.
 ghost use Rattle.std.specs.Prelude.{◌≡◌, ◌-◌, ◌*◌, ◌≤◌};
 
-// The last `left` of those that stand up to place `end`, of so many words each.
+// The last `left` of those that stand up to place `end`, of so many words each. Places and no slice: split and join write into the session
+// that they read from, which C passes as one list.
 #[derive(Clone, Copy)]
 pub struct Last<const WORDS: usize> {
     pub end: usize,
@@ -25,7 +26,8 @@ impl<const WORDS: usize> Last<WORDS> {
         self.end - WORDS * self.left
     }
 
-    // The lane of the first, which is its first word: 2,048 if there is none.
+    // The lane of the first, which is its first word: 2,048 if there is none. A number above all lanes and no Option, so that the least lane
+    // of several is a minimum.
     pub fn lane(self, s: &[u32]) -> u32
         requires some { 0 < WORDS }
         requires inside { self.end ≤ length s.now }

@@ -44,7 +44,8 @@ pub fn behind_cell_run(s: &[u32], cells: Cells, lane: u32) -> Cells
     cells.keep(0)
 }
 
-// Are two cells on the line between the takes, behind so many beats of the first, and bound?
+// Are two cells on the line between the takes, behind so many beats of the first, and bound? A cell's side stays a word, since a session from C
+// may hold any.
 pub fn bound_over(h: Header, beats: u32, c: Cell, d: Cell) -> bool
     ensures { result ≡ bound_at h beats c d }
 {
