@@ -101,17 +101,17 @@ pub record Lowering (s₀ s : List ℕ) (to lane beats end left₀ at left : ℕ
   pub writes : Writes s₀ s to at (gather cell_words (lower_cells lane (later_cells beats s₀ end left₀))) (gather cell_words (lower_cells lane (later_cells beats s₀ end left)))
   pub rest : upper_cells lane (later_cells beats s₀ end left) ≡ upper_cells lane (later_cells beats s₀ end left₀)
 
-module _ {s₀ : List ℕ} {to lane beats end left₀ : ℕ} (a : LowerAsks s₀ to lane beats end left₀) where
+module _ {s₀ : List ℕ} {to lane beats end left₀ : ℕ} (fits : 6 * left₀ ≤ end) (a : LowerAsks s₀ to lane beats end left₀) where
   module _ {s : List ℕ} {at left : ℕ} (l : Lowering s₀ s to lane beats end left₀ at left) where
     sized : length (gather cell_words (lower_cells lane (later_cells beats s₀ end left₀))) ≡ 6 * length (lower_cells lane (later_cells beats s₀ end left₀))
     sized = length-cell_words (lower_cells lane (later_cells beats s₀ end left₀))
 
     were : (k : ℕ) → k ≤ left₀ → last_cells s end k ≡ last_cells s₀ end k
-    were = run_were a.run.cells_in (writes_same l.writes (rw sized a.run.apart))
+    were = run_were fits (writes_same l.writes (rw sized a.run.apart))
 
     module _ (more : 0 < left) where
       pub lower-place : 6 * left ≤ end
-      lower-place = omega (arith, a.run.cells_in, l.few)
+      lower-place = omega (arith, fits, l.few)
 
       module _ {c : Cell} (is : c ≡ cell_at s (end - 6 * left)) where
         first : last_cells s₀ end left ≡ c ∷ last_cells s₀ end (left - 1)
@@ -122,7 +122,7 @@ module _ {s₀ : List ℕ} {to lane beats end left₀ : ℕ} (a : LowerAsks s₀
         later = rw first
 
         pub lower_movable : Movable beats c
-        lower_movable = (rw first at (all-last (Movable beats) s₀ end left₀ left l.few a.run.cells_in a.run.movable)).0
+        lower_movable = (rw first at (all-last (Movable beats) s₀ end left₀ left l.few fits a.run.movable)).0
 
         -- a cell of a lower lane
         module _ (less : c.lane < lane) where
@@ -183,7 +183,6 @@ module _ {s : List ℕ} {to : ℕ} {c : Cell} {beats end left : ℕ} (a : Before
       record {
         run =
             record {
-              cells_in = a.run.cells_in;
               inside = a.run.inside;
               movable = a.run.movable;
               apart = apart-within to (6 * length lower) a.run.apart (omega arith) (omega (arith, one_more));
@@ -234,7 +233,7 @@ module _ {s₀ : List ℕ} {to beats : ℕ} {first second : Contents} (a : Joine
     first_were = run_were first.cells.fits (writes_same l.writes (rw all_sized a.first-apart))
 
     second_were : (k : ℕ) → k ≤ second.cells.left → last_cells s second.cells.end k ≡ last_cells s₀ second.cells.end k
-    second_were = run_were a.run.cells_in (writes_same l.writes (rw all_sized a.run.apart))
+    second_were = run_were second.cells.fits (writes_same l.writes (rw all_sized a.run.apart))
 
     later_were : (k : ℕ) → k ≤ second.cells.left → later_cells beats s second.cells.end k ≡ later_cells beats s₀ second.cells.end k
     unfolding later_cells
@@ -246,10 +245,9 @@ module _ {s₀ : List ℕ} {to beats : ℕ} {first second : Contents} (a : Joine
         let low = l.writes.low in
         let in-run : Apart (second.cells.end - 6 * second.cells.left) (6 * second.cells.left) at size = apart-within at size a.run.apart low fits in
         record {
-          cells_in = omega (arith, a.run.cells_in, l.rest_few);
           inside = omega (arith, a.run.inside, l.writes.long);
-          movable = rw (second_were rest.left l.rest_few) (all-last (Movable beats) s₀ second.cells.end second.cells.left rest.left l.rest_few a.run.cells_in a.run.movable);
-          apart = apart_swap (apart-within (second.cells.end - 6 * rest.left) (6 * rest.left) (apart_swap in-run) (omega (arith, l.rest_few)) (omega (arith, l.rest_few, a.run.cells_in)));
+          movable = rw (second_were rest.left l.rest_few) (all-last (Movable beats) s₀ second.cells.end second.cells.left rest.left l.rest_few second.cells.fits a.run.movable);
+          apart = apart_swap (apart-within (second.cells.end - 6 * rest.left) (6 * rest.left) (apart_swap in-run) (omega (arith, l.rest_few)) (omega (arith, l.rest_few, second.cells.fits)));
           room = omega (arith, a.run.room, l.writes.long);
         }
 
@@ -324,7 +322,7 @@ module _ {s₀ : List ℕ} {to beats : ℕ} {first second : Contents} (a : Joine
       over_is =
           let z : left ≡ 0 = omega arith in
           let none : last_cells s₀ first.cells.end left ≡ [] = ap (last_cells s₀ first.cells.end) z ∙ no_cells s₀ first.cells.end in
-          let fit = all-last (Movable beats) s₀ second.cells.end second.cells.left rest.left l.rest_few a.run.cells_in a.run.movable in
+          let fit = all-last (Movable beats) s₀ second.cells.end second.cells.left rest.left l.rest_few second.cells.fits a.run.movable in
           rw (none, second_were rest.left l.rest_few) (sym (lower-all beats (last_cells s₀ second.cells.end rest.left) fit))
 
       last-ahead : Writes s₀ s to at (gather cell_words all) (gather cell_words (lower_cells 2048 (later_cells beats s second.cells.end rest.left)))

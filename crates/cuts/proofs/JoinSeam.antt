@@ -95,24 +95,24 @@ pub record Running (s₀ s : List ℕ) (to lane ticks end left₀ at left : ℕ)
   pub writes : Writes s₀ s to at (gather note_words (later_run lane ticks s₀ end left₀)) (gather note_words (later_run lane ticks s₀ end left))
   pub rest : note_rest lane (last_notes s₀ end left) ≡ note_rest lane (last_notes s₀ end left₀)
 
-module _ {s₀ : List ℕ} {to lane ticks end left₀ : ℕ} (a : NoteRunAsks s₀ to lane ticks end left₀) where
+module _ {s₀ : List ℕ} {to lane ticks end left₀ : ℕ} (fits : 4 * left₀ ≤ end) (a : NoteRunAsks s₀ to lane ticks end left₀) where
   module _ {s : List ℕ} {at left : ℕ} (l : Running s₀ s to lane ticks end left₀ at left) where
     sized : length (gather note_words (later_run lane ticks s₀ end left₀)) ≡ 4 * length (later_run lane ticks s₀ end left₀)
     sized = length-note_words (later_run lane ticks s₀ end left₀)
 
     were : (k : ℕ) → k ≤ left₀ → last_notes s end k ≡ last_notes s₀ end k
-    were = notes_were a.notes_in_lem (writes_same l.writes (rw sized a.apart))
+    were = notes_were fits (writes_same l.writes (rw sized a.apart))
 
     module _ (more : 0 < left) where
       pub run-place : 4 * left ≤ end
-      run-place = omega (arith, a.notes_in_lem, l.few)
+      run-place = omega (arith, fits, l.few)
 
       module _ {n : Note} (is : n ≡ note_at s (end - 4 * left)) where
         first : last_notes s₀ end left ≡ n ∷ last_notes s₀ end (left - 1)
         first = sym (were left l.few) ∙ last_notes_lem s end left more run-place ∙ rw (← is, were (left - 1) (omega (arith, l.few)))
 
         pub run_shiftable : Shiftable ticks n
-        run_shiftable = (rw first at (all-last_notes (Shiftable ticks) s₀ end left₀ left l.few a.notes_in_lem a.shiftable)).0
+        run_shiftable = (rw first at (all-last_notes (Shiftable ticks) s₀ end left₀ left l.few fits a.shiftable)).0
 
         -- a note of the lane
         module _ (same : n.lane ≡ lane) where
@@ -280,11 +280,11 @@ pub last-cell : (s : List ℕ) (lane end : ℕ) (d : Cell) (left r : ℕ) → 6 
 last-cell s lane end d left r fits =
     last_of_run (λ c. c.lane) lane (last_cells s end) (λ k. cell_at s (end - 6 * k)) left (λ k more few. last_cells_lem s end k more (omega arith)) d left r (omega arith)
 
-module _ {s : List ℕ} {end left r : ℕ} (h : Header) (line : ℕ) (c : Cell) (a : RunRead s c.lane end left r) where
+module _ {s : List ℕ} {end left r : ℕ} (h : Header) (line : ℕ) (c : Cell) (fits : 4 * left ≤ end) (a : RunRead s c.lane end left r) where
   module _ {b : Bool} (is : b ≡ stands_alone h c) where
     module _ (d : r ≡ left → ⊥) where
       pub up_last : b ≡ true → {n : Note} → n ≡ note_at s (end - 4 * (r + 1)) → n ≡ up_to h line c (note_run c.lane (last_notes s end left))
-      up_last e f = rw (sym is ∙ e) (f ∙ sym (last-note s c.lane end (ending_at line c) left r a.notes_in_lem a.count (omega (arith, a.count))))
+      up_last e f = rw (sym is ∙ e) (f ∙ sym (last-note s c.lane end (ending_at line c) left r fits a.count (omega (arith, a.count))))
 
 module _ (s : List ℕ) (end left : ℕ) (h : Header) (d : Cell) where
   abbrev ahead : List Note

@@ -98,7 +98,6 @@ module _ {s : List ℕ} {h : Header} {i j k : ℕ} (a : JoinAsks s h i j k) wher
             first-apart = cells-apart p;
             run =
                 record {
-                  cells_in = omega (arith, o.cells_in);
                   inside = o.inside;
                   movable = rw f second_movable;
                   apart = cells-apart o;

@@ -247,7 +247,6 @@ module _ {s : List ℕ} {h : Header} {beats line lane : ℕ} {first : Contents} 
         over_asks =
             record {
               first_read = record {
-                notes_in_lem = a.notes_read.notes_in_lem;
                 inside = a.notes_read.inside;
                 count = a.notes_read.count ∙ ap (λ (l : ℕ). rest + length (note_run l (notes_from s first))) (sym c_on);
               };

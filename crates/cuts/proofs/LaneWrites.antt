@@ -48,7 +48,6 @@ module _ {s : List ℕ} {to : ℕ} {h : Header} {beats line : ℕ} (lane : ℕ) 
   first_asks =
       let p = j.first-placed in
       record {
-        notes_in_lem = omega (arith, p.notes_in_lem);
         inside = omega (arith, p.order, p.inside);
         shiftable = all_imp (Shiftable line) (Shiftable 0) (notes_from s first)
             (λ n f. record { start_word = omega (arith, f.start_word); end_word = omega (arith, f.end_word) }) j.first_shiftable;
@@ -84,7 +83,6 @@ module _ {s : List ℕ} {to : ℕ} {h : Header} {beats line : ℕ} (lane : ℕ) 
           record {
             line_is = j.line_is;
             notes_read = record {
-              notes_in_lem = first_asks.notes_in_lem;
               inside = omega (arith, first_asks.inside, long₁);
               count = p.count ∙ ap (λ (n : ℕ). rest + n) (ap length run_is ∙ sym (ap (λ (ns : List Note). length (note_run lane ns)) (first_still.notes first.notes.left (omega arith))));
             };
@@ -158,7 +156,6 @@ module _ {s : List ℕ} {to : ℕ} {h : Header} {beats line : ℕ} (lane : ℕ) 
       second_asks f = subst (λ (e : ℕ). NoteRunAsks s₁ front.at lane line e left) (sym f) (
           let o = j.second_placed in
           record {
-            notes_in_lem = omega (arith, second.notes.fits, b.few);
             inside = back_asks;
             shiftable =
                 all-last_notes (Shiftable line) s₁ second.notes.end second.notes.left left b.few second.notes.fits

@@ -37,9 +37,8 @@ pub record Movable (beats : ℕ) (c : Cell) : Type 0 where
   pub lane_below : c.lane < 2048
   pub beat_word : beats + c.beat ≤ 4294967295
 
--- The last cells of a run stand in their places, apart from the words that are written, and can be moved.
+-- The last cells of a run stand apart from the words that are written, and can be moved.
 pub record RunAsks (s : List ℕ) (beats end left to size : ℕ) : Type 0 where
-  pub cells_in : 6 * left ≤ end
   pub inside : end ≤ length s
   pub movable : All (Movable beats) (last_cells s end left)
   pub apart : Apart (end - 6 * left) (6 * left) to size

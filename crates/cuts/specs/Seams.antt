@@ -26,9 +26,8 @@ pub record Shiftable (ticks : ℕ) (n : Note) : Type 0 where
 abbrev pub later_run : ℕ → ℕ → List ℕ → ℕ → ℕ → List Note
 later_run lane ticks s end k = map (note_later ticks) (note_run lane (last_notes s end k))
 
--- The last notes stand in their places, apart from the words that are written, and can be moved; room for those of the lane.
+-- The last notes stand apart from the words that are written, and can be moved; room for those of the lane.
 pub record NoteRunAsks (s : List ℕ) (to lane ticks end left : ℕ) : Type 0 where
-  pub notes_in_lem : 4 * left ≤ end
   pub inside : end ≤ length s
   pub shiftable : All (Shiftable ticks) (last_notes s end left)
   pub apart : Apart (end - 4 * left) (4 * left) to (4 * length (later_run lane ticks s end left))
@@ -42,7 +41,6 @@ pub record NoteRunPut (s : List ℕ) (to lane ticks end left : ℕ) (t : List �
 
 -- The notes of a lane in front of the last `left` notes are read, and r notes are left.
 pub record RunRead (s : List ℕ) (lane end left r : ℕ) : Type 0 where
-  pub notes_in_lem : 4 * left ≤ end
   pub inside : end ≤ length s
   pub count : left ≡ r + length (note_run lane (last_notes s end left))
 

@@ -4,16 +4,16 @@ use Rattle.cuts.proofs.JoinCells.{lower_movable, lower-room, lowering_cell, lowe
 use Rattle.cuts.proofs.joined.put_lower.Goals as goal
 
 pub overflow_add-beats : goal.overflow_add-beats
-overflow_add-beats c = omega (arith, (lower_movable c.requires c.loop-rest.invariant c.loop-rest-test.true c.cell_at-c.ensures).beat_word)
+overflow_add-beats c = omega (arith, (lower_movable c.args.cells.fits c.requires c.loop-rest.invariant c.loop-rest-test.true c.cell_at-c.ensures).beat_word)
 
 pub put-requires : goal.put-requires
-put-requires c = (omega arith, lower-room c.requires c.loop-rest.invariant c.loop-rest-test.true c.cell_at-c.ensures c.if-lane-c.false)
+put-requires c = (omega arith, lower-room c.args.cells.fits c.requires c.loop-rest.invariant c.loop-rest-test.true c.cell_at-c.ensures c.if-lane-c.false)
 
 pub loop-rest-preserved : goal.loop-rest-preserved
-loop-rest-preserved c = lowering_cell c.requires c.loop-rest.invariant c.loop-rest-test.true c.cell_at-c.ensures c.if-lane-c.false c.put.ensures
+loop-rest-preserved c = lowering_cell c.args.cells.fits c.requires c.loop-rest.invariant c.loop-rest-test.true c.cell_at-c.ensures c.if-lane-c.false c.put.ensures
 
 pub returns-clause-put : goal.returns-clause-put
-returns-clause-put c = lowered_end c.requires c.loop-rest.invariant c.keep-2.ensures.left_is (omega (arith, c.loop-rest-test.false))
+returns-clause-put c = lowered_end c.args.cells.fits c.requires c.loop-rest.invariant c.keep-2.ensures.left_is (omega (arith, c.loop-rest-test.false))
 
 pub returns-then-lane-c-clause-put : goal.returns-then-lane-c-clause-put
-returns-then-lane-c-clause-put c = rw c.keep.ensures.left_is (lowered_stop c.requires c.loop-rest.invariant c.loop-rest-test.true c.cell_at-c.ensures c.if-lane-c.true)
+returns-then-lane-c-clause-put c = rw c.keep.ensures.left_is (lowered_stop c.args.cells.fits c.requires c.loop-rest.invariant c.loop-rest-test.true c.cell_at-c.ensures c.if-lane-c.true)
