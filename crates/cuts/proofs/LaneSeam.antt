@@ -160,7 +160,7 @@ module _ (h : Header) (k : ℕ) (ms ns : List Note) where
   apart-lane e = ap (λ (x : ℕ). join_apart x ms ns) (sym e)
 
 module _ {s : List ℕ} {h : Header} {beats line lane : ℕ} {first : Contents} {rest cells : ℕ} {second : Contents}
-    (a : SeamAsks s h beats line lane first rest cells second) where
+    (line_is : line ≡ beats * h.delta) (a : SeamAsks s h beats line lane first rest cells second) where
   abbrev ms : List Note
   ms = lane_notes lane s first
 
@@ -174,7 +174,7 @@ module _ {s : List ℕ} {h : Header} {beats line lane : ℕ} {first : Contents} 
   ds = cell_run lane (cells_from s second)
 
   apart_by : lane_joined h beats lane s first second ≡ join_apart (beats * h.delta) ms ns → lane_joined h beats lane s first second ≡ lane_by None line ms ns
-  apart_by f = f ∙ apart-lane h beats ms ns a.line_is
+  apart_by f = f ∙ apart-lane h beats ms ns line_is
 
   pub seam_no_first : cells ≡ first.cells.left → lane_joined h beats lane s first second ≡ lane_by None line ms ns
   unfolding lane_joined
@@ -231,7 +231,7 @@ module _ {s : List ℕ} {h : Header} {beats line lane : ℕ} {first : Contents} 
           seam_bound t {r} is =
               first_some cs refl
               ∙ cond_yes (join_over h (beats * h.delta) c d ms ns) (join_apart (beats * h.delta) ms ns) (sym b-is ∙ not-false b t)
-              ∙ ap (λ (x : ℕ). join_over h x c d ms ns) (sym a.line_is)
+              ∙ ap (λ (x : ℕ). join_over h x c d ms ns) (sym line_is)
               ∙ over_lane h line c d ms ns
               ∙ ap (λ (q : Seam). lane_by (Some q) line ms ns) (sym (is ∙ (λ i. over_seam h line c d (lane_notes (c_on i) s first) (lane_notes (on i) s second))))
 

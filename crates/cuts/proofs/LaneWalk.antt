@@ -205,7 +205,6 @@ module _ {s₀ : List ℕ} {to : ℕ} {h : Header} {beats : ℕ} {first second :
           let g = second_still lane w in
           let can = Shiftable line in
           record {
-            line_is = refl;
             first-placed = first-placed lane w (4 * length here) fits;
             second_placed = second_placed lane w (4 * length here) fits;
             first_shiftable =

@@ -81,7 +81,6 @@ module _ {s : List ℕ} {to : ℕ} {h : Header} {beats line : ℕ} (lane : ℕ) 
       pub seam_asks : SeamAsks s₁ h beats line lane first rest cells second
       seam_asks =
           record {
-            line_is = j.line_is;
             notes_read = record {
               inside = omega (arith, first_asks.inside, long₁);
               count = p.count ∙ ap (λ (n : ℕ). rest + n) (ap length run_is ∙ sym (ap (λ (ns : List Note). length (note_run lane ns)) (first_still.notes first.notes.left (omega arith))));

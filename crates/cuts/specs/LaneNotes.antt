@@ -41,7 +41,6 @@ pub record Reaching (ticks : ℕ) (c : Cell) : Type 0 where
 
 -- Two takes stand in their places, apart from the words of the notes to be written, and their ticks can be moved to the line between them.
 pub record Joinable (s : List ℕ) (to : ℕ) (h : Header) (beats line : ℕ) (first second : Contents) (notes : List Note) : Type 0 where
-  pub line_is : line ≡ beats * h.delta
   pub first-placed : Placed s first to (4 * length notes)
   pub second_placed : Placed s second to (4 * length notes)
   pub first_shiftable : All (Shiftable line) (notes_from s first)
@@ -52,7 +51,6 @@ pub record Joinable (s : List ℕ) (to : ℕ) (h : Header) (beats line : ℕ) (f
 
 -- The first take's notes and cells of the lane are read up to those that are left.
 pub record SeamAsks (s : List ℕ) (h : Header) (beats line lane : ℕ) (first : Contents) (rest cells : ℕ) (second : Contents) : Type 0 where
-  pub line_is : line ≡ beats * h.delta
   pub notes_read : RunRead s lane first.notes.end first.notes.left rest
   pub cells-inside : first.cells.end ≤ length s
   pub cells_count : first.cells.left ≡ cells + length (cell_run lane (cells_from s first))

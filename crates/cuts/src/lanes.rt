@@ -6,8 +6,9 @@ ghost use Rattle.cuts.specs.LaneNotes.{SeamAsks, kept_by, SeamPut, seam_end, Bac
 
 use crate::halves::Contents;
 use crate::lasts::Notes;
+use crate::lines::Line;
 use crate::seam;
-use crate::seam::{Line, Seam};
+use crate::seam::Seam;
 use model::Header;
 use session::notes;
 

@@ -7,6 +7,7 @@ ghost use Rattle.cuts.specs.Seams.{NoteRunAsks, NoteRunPut, RunRead, OverAsks, l
 
 use crate::halves::Contents;
 use crate::lasts::{Cells, Notes};
+use crate::lines::Line;
 use model::{Cell, Header, Note};
 use session::{notes, rules};
 
@@ -66,14 +67,6 @@ pub fn bound_over(h: Header, beats: u32, c: Cell, d: Cell) -> bool
 }
 
 // ---- the note that goes over the line
-
-// The line between two takes: the first has so many beats, and the line is at that tick.
-#[derive(Clone, Copy)]
-pub struct Line {
-    pub h: Header,
-    pub beats: u32,
-    pub tick: u32,
-}
 
 // A closing cell's note up to the line.
 fn ending(line: u32, c: Cell) -> Note
