@@ -4,7 +4,7 @@ ghost use Rattle.model.specs.Limits.{lane_count};
 ghost use Rattle.model.specs.Questions.{fits, take_at};
 ghost use Rattle.model.specs.Takes.{join_takes};
 ghost use Rattle.laws.specs.JoinCount.{seams};
-ghost use Rattle.laws.specs.Seam.{one, seam_of};
+ghost use Rattle.laws.specs.Seam.{seam_of};
 ghost use Rattle.session.specs.Reading.{last_cells};
 ghost use Rattle.cuts.specs.Counting.{count_of, pair_at, run_cells, RunAhead, RunAt, SeamsAsks, CountsAsks, counted_words, FitAsks};
 

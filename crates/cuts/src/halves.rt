@@ -1,9 +1,9 @@
 // Both halves of a take, written into two other shelves of the session in one pass over the take's own notes and cells.
-ghost use Rattle.std.specs.Prelude.{◌≡◌, cond, true, ◌+◌, ◌-◌, ◌*◌, ◌/◌, ◌≤◌, ◌<◌, ltb, length};
+ghost use Rattle.std.specs.Prelude.{◌≡◌, true, ◌+◌, ◌-◌, ◌*◌, ◌/◌, ◌≤◌, ◌<◌, length};
 ghost use Rattle.words.specs.Splice.{splice};
 ghost use Rattle.model.specs.Limits.{max_beats, max_delta};
 ghost use Rattle.model.specs.Lists.{gather};
-ghost use Rattle.model.specs.Takes.{note_words, cell_words, cell_to, words_of};
+ghost use Rattle.model.specs.Takes.{note_words, cell_words, words_of};
 ghost use Rattle.model.specs.Session.{shelf_at};
 ghost use Rattle.model.specs.Questions.{header_ok, take_at};
 ghost use Rattle.laws.specs.Cutting.{closing_cell, first_cell};

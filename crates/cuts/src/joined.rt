@@ -1,5 +1,5 @@
 // Two takes joined, written into another shelf of the session straight from their own notes and cells.
-ghost use Rattle.std.specs.Prelude.{◌≡◌, true, ◌+◌, ◌*◌, ◌<◌, length};
+ghost use Rattle.std.specs.Prelude.{◌≡◌, true, ◌<◌, length};
 ghost use Rattle.cuts.specs.Making.{Made};
 ghost use Rattle.words.specs.Splice.{splice};
 ghost use Rattle.model.specs.Questions.{header_ok, take_at};

@@ -1,9 +1,9 @@
 // The notes of a join, lane by lane: copied from both takes, and at the seam decided by the rules.
-ghost use Rattle.std.specs.Prelude.{◌≡◌, ◌+◌, ◌*◌, ◌≤◌, min, length};
+ghost use Rattle.std.specs.Prelude.{◌≡◌, ◌≤◌, length};
 ghost use Rattle.laws.specs.JoinWalk.{least_lane, note_run, cell_rest};
 ghost use Rattle.laws.specs.Seam.{bound_at, ending_at, starting_at0, up_to, from_on};
 ghost use Rattle.session.specs.Reading.{last_notes, last_cells};
-ghost use Rattle.cuts.specs.Seams.{NoteRunAsks, NoteRunPut, RunRead, OverAsks, lane_notes, over_seam, InPlace, lane_of};
+ghost use Rattle.cuts.specs.Seams.{NoteRunAsks, NoteRunPut, RunRead, OverAsks, over_seam, InPlace, lane_of};
 
 use crate::halves::Contents;
 use crate::lasts::{Cells, Notes};
