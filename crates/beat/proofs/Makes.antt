@@ -226,11 +226,12 @@ pub record Celling (s₀ s : List ℕ) (at count δ end from to : ℕ) : Type 0 
   pub ok : notes_ok δ beats (notes_from s₀ end from) ≡ true
   pub writes : Writes s₀ s end to (gather cell_words (cells_at δ s₀ at count)) (gather cell_words (gather (cells_of_note δ) (notes_from s₀ end from)))
 
-pub celling_start : {s : List ℕ} {at count δ : ℕ} → CellsAsks s at count δ → Celling s s at count δ (at + 4 * count) at (at + 4 * count)
+pub celling_start : {s : List ℕ} {at count δ : ℕ} → CellsAsks s at count δ → Celling s s at count δ (at + 4 * count) (at + 4 * 0) (at + 4 * count)
 unfolding cells_at
 celling_start {s} {at} {count} {δ} a =
     let all : (at + 4 * count - at) / 4 ≡ count = omega arith in
-    record {
+    let first : at + 4 * 0 ≡ at = omega arith in
+    rw first (record {
       beats = a.beats;
       range = a.range;
       ends = refl;
@@ -238,7 +239,7 @@ celling_start {s} {at} {count} {δ} a =
       low = omega arith;
       ok = rw all a.ok;
       writes = rw all (writes_start s (at + 4 * count) (gather cell_words (cells_at δ s at count)));
-    }
+    })
 
 module _ {s₀ s : List ℕ} {at count δ end from to : ℕ} (a : CellsAsks s₀ at count δ) (l : Celling s₀ s at count δ end from to) where
   inside : end ≤ length s
@@ -287,18 +288,18 @@ module _ {s₀ s : List ℕ} {at count δ end from to : ℕ} (a : CellsAsks s₀
                 );
           }
 
-      pub celling_note : {t : List ℕ} {r : ℕ} → Made s to (cells_of_note δ n) t r → Celling s₀ t at count δ end (from + 4) r
-      celling_note m =
-          let next = writes-run (gather cell_words (cells_of_note δ n)) (6 * length (cells_of_note δ n)) (length-cell_words (cells_of_note δ n)) ahead_of in
-          record {
+      pub celling_note : {t : List ℕ} {r next : ℕ} → Made s to (cells_of_note δ n) t r → next ≡ from + 4 → Celling s₀ t at count δ end next r
+      celling_note m is =
+          let written = writes-run (gather cell_words (cells_of_note δ n)) (6 * length (cells_of_note δ n)) (length-cell_words (cells_of_note δ n)) ahead_of in
+          rw is (record {
             beats = l.beats;
             range = l.range;
             ends = l.ends;
             whole = omega (arith, l.whole);
             low = omega (arith, l.low);
             ok = and_right (note_ok δ l.beats n && first_follows n (notes_from s₀ end (from + 4))) (notes_ok δ l.beats (notes_from s₀ end (from + 4))) tests;
-            writes = rw (← m.words, ← m.behind) at next;
-          }
+            writes = rw (← m.words, ← m.behind) at written;
+          })
 
   pub celled : end ≤ from → Made s₀ (at + 4 * count) (cells_at δ s₀ at count) s to
   unfolding read_notes

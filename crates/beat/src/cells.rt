@@ -5,26 +5,21 @@ ghost use Rattle.model.specs.Lists.{gather};
 ghost use Rattle.model.specs.Limits.{max_beats};
 ghost use Rattle.model.specs.Pieces.{cell_at, cells_of_note};
 ghost use Rattle.model.specs.Takes.{cell_words};
-ghost use Rattle.session.specs.Dividing.{reciprocal_of};
 ghost use Rattle.cuts.specs.Making.{Made, touched_cells, crossed_cells, cells_behind, LinesAsks, NoteAsks, CellsAsks, cells_at};
 
 use model::Note;
-use session::beats;
+use session::beats::Divisor;
+use session::notes;
 
 // The cell of a note on a line of a beat.
 fn put_cell(s: &mut [u32], at: usize, n: Note, beat: u32, side: u32, line: u32)
     requires { (at + 6 ≤ length s.old) × (n.start ≤ line) × (line ≤ n.end) }
     ensures { s.new ≡ splice s.old at (cell_words (cell_at n beat side line)) }
 {
-    words::put_six(
+    words::put(
         s,
         at,
-        n.lane,
-        beat,
-        side,
-        line - n.start,
-        n.end - line,
-        n.velocity,
+        [n.lane, beat, side, line - n.start, n.end - line, n.velocity],
     );
 }
 
@@ -40,7 +35,8 @@ fn put_first(s: &mut [u32], at: usize, n: Note, beat: u32, line: u32) -> usize
     at + 6
 }
 
-// The cell on the closing line of a note's last beat, if the note ends there. Returns the place behind it.
+// The cell on the closing line of a note's last beat, if the note ends there. Returns the place behind it. One function for this and put_first
+// is no plainer: it would look at both ends of the note at either line.
 fn put_last(s: &mut [u32], at: usize, n: Note, beat: u32, line: u32) -> usize
     requires { (at + 6 * length (touched_cells n beat 1 line) ≤ length s.old) × (n.start ≤ line) }
     ensures { Made s.old at (touched_cells n beat 1 line) s.new result }
@@ -66,6 +62,7 @@ fn put_lines(s: &mut [u32], at: usize, delta: u32, n: Note, first: u32, next: u3
     requires { LinesAsks s.old at delta n first next }
     ensures { Made s.old at (cells_behind delta n first) s.new result }
 {
+    // A `for` over the lines is no plainer: the beat and the line behind the last turn are needed below.
     let mut beat = first;
     let mut line = next;
     let mut to = at;
@@ -79,14 +76,14 @@ fn put_lines(s: &mut [u32], at: usize, delta: u32, n: Note, first: u32, next: u3
 }
 
 // The cells of a note. Returns the place behind them.
-fn put_note(s: &mut [u32], at: usize, delta: u32, reciprocal: u64, n: Note) -> usize
-    requires { NoteAsks s.old at delta n × (reciprocal ≡ reciprocal_of delta) }
-    ensures { Made s.old at (cells_of_note delta n) s.new result }
+fn put_note(s: &mut [u32], at: usize, by: Divisor, n: Note) -> usize
+    requires { NoteAsks s.old at by.delta n }
+    ensures { Made s.old at (cells_of_note by.delta n) s.new result }
 {
-    let first = beats::beat_of(delta, reciprocal, n.start);
-    let line = first * delta;
+    let first = by.beat_of(n.start);
+    let line = first * by.delta;
     let to = put_first(s, at, n, first, line);
-    put_lines(s, to, delta, n, first, line + delta)
+    put_lines(s, to, by.delta, n, first, line + by.delta)
 }
 
 // The cells of `count` notes that stand from place `at` on, written behind them. Returns the place behind the cells.
@@ -95,13 +92,11 @@ pub fn put_cells(s: &mut [u32], at: usize, count: usize, delta: u32) -> usize
     ensures { Made s.old (at + 4 * count) (cells_at delta s.old at count) s.new result }
 {
     let end = at + 4 * count;
-    let reciprocal = beats::reciprocal(delta);
-    let mut from = at;
+    let by = Divisor::new(delta);
     let mut to = end;
-    while from < end {
-        let n = session::notes::note_at(s, from);
-        to = put_note(s, to, delta, reciprocal, n);
-        from += 4;
+    for k in 0..count {
+        let n = notes::note_at(s, at + 4 * k);
+        to = put_note(s, to, by, n);
     }
     to
 }

@@ -1,8 +1,8 @@
 -- What both halves have of a note and of a cell, by the way that the code goes. Assumes nothing.
 use mathlib.Core.Path.{◌≡◌, refl, sym, ap, ◌∙◌}
-use mathlib.Core.Bool.{Bool, true, false, cond}
+use mathlib.Core.Bool.{Bool, true, false}
 use mathlib.Core.List.{List, [], ◌∷◌}
-use Prim.Native.Nat.{ℕ, ◌+◌, ◌-◌, ◌*◌, ◌≤◌, ◌<◌}
+use Prim.Native.Nat.{ℕ, ◌+◌, ◌-◌, ◌*◌, ◌≤◌, ◌<◌, min}
 use native.Mathlib.Omega.{arith}
 use borrow.Author.Tests.{le-leb, lt-leb, le-ltb, lt-ltb, ltb-true, ltb-false}
 use lib.Dec.{ltb}
@@ -24,7 +24,7 @@ use Rattle.cuts.specs.declared.halves.Ends.{Ends}
 use Rattle.cuts.specs.declared.halves.CellPlace.{CellPlace}
 use Rattle.cuts.specs.declared.halves.Cursors.{Cursors}
 use Rattle.cuts.specs.Halving.{passed, across_parts, Noted}
-use Rattle.cuts.specs.BothHalves.{places_of, part_from, cell_place, left_cell, right_cell, BothPut, PartsAsks, PartsPut}
+use Rattle.cuts.specs.BothHalves.{part_from, cell_place, left_cell, right_cell, BothPut, PartsAsks, PartsPut}
 use Rattle.cuts.proofs.Parts.{none_before, none-behind, some_across, part-before-left, part-before-right, part-behind-left, part-behind-right, part_across}
 use Rattle.cuts.proofs.Passes.{cells_agree}
 use Rattle.cuts.proofs.Skips.{goes_on}
@@ -62,18 +62,18 @@ module _ {s : List ℕ} {h : Header} {a b : Half} {n : Note} {end : ℕ} {at : C
     unfolding part_from
     before-right = part-before-right h b n (passed b n opening) right_ends q.sides.right_is
 
-    pub before-room : at.left + 4 ≤ length s
+    pub before-room : at.to.left + 4 ≤ length s
     before-room = rw before-left at q.left-room
 
-    pub before-put : {t : List ℕ} → t ≡ splice s at.left (note_words n)
-        → PartsPut s h a b n end at t (record { left = at.left + 4; right = at.right; closings = at.closings; openings = at.openings })
+    pub before-put : {t : List ℕ} → t ≡ splice s at.to.left (note_words n)
+        → PartsPut s h a b n end at t (record { to = record { left = at.to.left + 4; right = at.to.right }; closings = at.closings; openings = at.openings })
     before-put e = record {
       closings_are = none_before a n closing i;
       closings_few = omega arith;
       openings_are = none_before b n opening right_ends;
       openings_few = omega arith;
       order = q.order;
-      put = left-put s (places_of at) (note_words n) (ap (gather note_words) before-left) (ap (gather note_words) before-right) e;
+      put = left-put s at.to (note_words n) (ap (gather note_words) before-left) (ap (gather note_words) before-right) e;
     }
 
   module _ (i : a.line < n.end) where
@@ -93,18 +93,18 @@ module _ {s : List ℕ} {h : Header} {a b : Half} {n : Note} {end : ℕ} {at : C
       unfolding part_from
       behind-right = part-behind-right h b n (passed b n opening) right_over right_starts q.sides.right_is ∙ ap (λ (x : ℕ). note_back x n ∷ []) q.sides.line_is
 
-      pub behind-room : at.right + 4 ≤ length s
+      pub behind-room : at.to.right + 4 ≤ length s
       behind-room = rw behind-right at q.right-room
 
-      pub behind-put : {t : List ℕ} → t ≡ splice s at.right (note_words (note_back a.line n))
-          → PartsPut s h a b n end at t (record { left = at.left; right = at.right + 4; closings = at.closings; openings = at.openings })
+      pub behind-put : {t : List ℕ} → t ≡ splice s at.to.right (note_words (note_back a.line n))
+          → PartsPut s h a b n end at t (record { to = record { left = at.to.left; right = at.to.right + 4 }; closings = at.closings; openings = at.openings })
       behind-put e = record {
         closings_are = none-behind a n closing i j;
         closings_few = omega arith;
         openings_are = none-behind b n opening right_over right_starts;
         openings_few = omega arith;
         order = q.order;
-        put = right-put s (places_of at) (note_words (note_back a.line n)) (ap (gather note_words) behind-left) (ap (gather note_words) behind-right) e;
+        put = right-put s at.to (note_words (note_back a.line n)) (ap (gather note_words) behind-left) (ap (gather note_words) behind-right) e;
       }
 
     -- it crosses the line
@@ -120,18 +120,11 @@ module _ {s : List ℕ} {h : Header} {a b : Half} {n : Note} {end : ℕ} {at : C
         unfolding part_from
         left_part = part_across h a n (passed a n closing) i j ∙ ap (across_parts h a n) (sym closed)
 
-        pub left_asks : (at.left + 4 * length (across_parts h a n (last_cells s end k)) ≤ length s) × (6 * k ≤ end) × (end ≤ length s) × (a.line ≤ n.end)
-        left_asks = (rw left_part at q.left-room, omega (arith, q.closings_in, e.1), q.inside, omega arith)
+        pub left_asks : (at.to.left + 4 * length (across_parts h a n (last_cells s end k)) ≤ length s) × (end ≤ length s) × (a.line ≤ n.end)
+        left_asks = (rw left_part at q.left-room, q.inside, omega arith)
 
         -- the search that goes on from the closing cell, or from the opening cell before
-        module _ {x : ℕ} (is : x ≡ cond (ltb k at.openings) k at.openings) where
-          pub on_asks : (6 * x ≤ end) × (end ≤ length s)
-          on_asks = (go (ltb k at.openings) is, q.inside)
-            where
-              go : (t : Bool) → x ≡ cond t k at.openings → 6 * x ≤ end
-              go true g = omega (arith, q.closings_in, e.1)
-              go false g = omega (arith, q.closings_in, q.order)
-
+        module _ {x : ℕ} (is : x ≡ min k at.openings) where
           pub found_on : {o : ℕ} → (last_cells s end o ≡ skip n.lane b.edge (last_cells s end x)) × (o ≤ x)
               → (last_cells s end o ≡ skip n.lane b.edge opening) × (o ≤ at.openings) × (o ≤ k)
           found_on g = goes_on s end n.lane a.edge b.edge at.closings k at.openings q.sides.edges q.closings_in q.order e.0 is g
@@ -144,31 +137,31 @@ module _ {s : List ℕ} {h : Header} {a b : Half} {n : Note} {end : ℕ} {at : C
           unfolding part_from
           right_part = part_across h b n (passed b n opening) right_over right-under ∙ ap (across_parts h b n) (sym opened)
 
-          module _ {s₁ : List ℕ} {l : ℕ} (m : Noted s at.left (across_parts h a n (last_cells s end k)) s₁ l) where
+          module _ {s₁ : List ℕ} {l : ℕ} (m : Noted s at.to.left (across_parts h a n (last_cells s end k)) s₁ l) where
             lefts : List Note
             lefts = across_parts h a n (last_cells s end k)
 
             long : length s₁ ≡ length s
             unfolding lefts
-            long = ap length m.words ∙ length-splice s at.left (gather note_words lefts)
+            long = ap length m.words ∙ length-splice s at.to.left (gather note_words lefts)
 
             -- the cells are as they were
             still : last_cells s₁ end o ≡ last_cells s end o
             unfolding lefts
             still =
-                let apart : Apart (end - 6 * at.openings) (6 * at.openings) at.left (4 * length lefts) = rw left_part at q.apart in
+                let apart : Apart (end - 6 * at.openings) (6 * at.openings) at.to.left (4 * length lefts) = rw left_part at q.apart in
                 let same : Same s₁ s (end - 6 * at.openings) (6 * at.openings) =
-                rw m.words (splice_same s at.left (gather note_words lefts) apart (omega (arith, length-note_words lefts))) in
+                rw m.words (splice_same s at.to.left (gather note_words lefts) apart (omega (arith, length-note_words lefts))) in
                 cells_agree s₁ s end end o (omega (arith, q.closings_in, q.order, f.1)) (omega (arith, q.closings_in, q.order, f.1))
                 (λ x pos upto. same.at (end - x) (omega (arith, q.closings_in, q.order, f.1)) (omega (arith, q.closings_in, q.order, f.1)))
 
-            pub right_asks : (at.right + 4 * length (across_parts h b n (last_cells s₁ end o)) ≤ length s₁) × (6 * o ≤ end) × (end ≤ length s₁) × (b.line ≤ n.end)
+            pub right_asks : (at.to.right + 4 * length (across_parts h b n (last_cells s₁ end o)) ≤ length s₁) × (end ≤ length s₁) × (b.line ≤ n.end)
             right_asks =
-                let room : at.right + 4 * length (across_parts h b n (last_cells s end o)) ≤ length s = rw right_part at q.right-room in
-                (rw (still, long) room, omega (arith, q.closings_in, q.order, f.1), rw long q.inside, omega arith)
+                let room : at.to.right + 4 * length (across_parts h b n (last_cells s end o)) ≤ length s = rw right_part at q.right-room in
+                (rw (still, long) room, rw long q.inside, omega arith)
 
-            pub crossed_put : {s₂ : List ℕ} {r : ℕ} → Noted s₁ at.right (across_parts h b n (last_cells s₁ end o)) s₂ r
-                → PartsPut s h a b n end at s₂ (record { left = l; right = r; closings = k; openings = o })
+            pub crossed_put : {s₂ : List ℕ} {r : ℕ} → Noted s₁ at.to.right (across_parts h b n (last_cells s₁ end o)) s₂ r
+                → PartsPut s h a b n end at s₂ (record { to = record { left = l; right = r }; closings = k; openings = o })
             crossed_put m₂ = record {
               closings_are = closed;
               closings_few = e.1;
@@ -228,11 +221,11 @@ module _ (k : ℕ) (c : Cell) where
         go false f = rw (e, f) (moved_room (ltb-false c.beat k f) at.right len r)
 
     pub place-put : (s : List ℕ) {t : List ℕ} → t ≡ splice s p.to (cell_words (cell_to p.beat c))
-        → BothPut s at (gather cell_words (left_cell k c)) (gather cell_words (right_cell k c)) t (record { left = p.left; right = p.right })
+        → BothPut s at (gather cell_words (left_cell k c)) (gather cell_words (right_cell k c)) t p.behind
     unfolding cell_place
     place-put s {t} g = go (ltb c.beat k) refl
       where
         go : (b : Bool) → ltb c.beat k ≡ b
-            → BothPut s at (gather cell_words (left_cell k c)) (gather cell_words (right_cell k c)) t (record { left = p.left; right = p.right })
+            → BothPut s at (gather cell_words (left_cell k c)) (gather cell_words (right_cell k c)) t p.behind
         go true f = rw (e, f) (kept_put (ltb-true c.beat k f) s at (rw (e, f) at g))
         go false f = rw (e, f) (moved_put (ltb-false c.beat k f) s at (rw (e, f) at g))

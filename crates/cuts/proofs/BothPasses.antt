@@ -21,7 +21,7 @@ use Rattle.cuts.specs.declared.halves.Contents.{Contents}
 use Rattle.cuts.specs.declared.halves.Ends.{Ends}
 use Rattle.cuts.specs.declared.halves.Cursors.{Cursors}
 use Rattle.cuts.specs.Halving.{HalfOk, passed, note_parts, notes_left}
-use Rattle.cuts.specs.BothHalves.{places_of, part_from, left_cell, right_cell, left_cells, right_cells, BothPut, BothPlaced, PartsAsks, PartsPut, NotesAsks, CellsAsks}
+use Rattle.cuts.specs.BothHalves.{part_from, left_cell, right_cell, left_cells, right_cells, BothPut, BothPlaced, PartsAsks, PartsPut, NotesAsks, CellsAsks}
 use Rattle.cuts.proofs.Passes.{cells_agree, parts_step, no_parts}
 use Rattle.cuts.proofs.BothWrites.{BothWrites, both-start, both_turn, both-done, both_same}
 
@@ -29,66 +29,66 @@ use Rattle.cuts.proofs.BothWrites.{BothWrites, both-start, both_turn, both-done,
 
 module _ {s₀ : List ℕ} {from : Contents} {to : Ends} {m n : ℕ} (p : BothPlaced s₀ from to m n) where
   module _ {s : List ℕ} {at : Ends} {us vs ls rs : List ℕ} (w : BothWrites s₀ s to at us vs ls rs) (lefts : length us ≡ m) (rights : length vs ≡ n) where
-    still : Same s s₀ p.low (from.end - p.low)
+    still : Same s s₀ p.low (from.cells.end - p.low)
     still = both_same w (rw lefts p.left-from) (rw rights p.right-from)
 
-    note_was : (k : ℕ) → 0 < k → k ≤ from.notes → note_at s (from.middle - 4 * k) ≡ note_at s₀ (from.middle - 4 * k)
+    note_was : (k : ℕ) → 0 < k → k ≤ from.notes.left → note_at s (from.notes.end - 4 * k) ≡ note_at s₀ (from.notes.end - 4 * k)
     note_was k pos few =
-        note_same still (from.middle - 4 * k) (omega (arith, p.notes_in_lem)) (omega (arith, p.notes_in_lem, p.order))
+        note_same still (from.notes.end - 4 * k) (omega (arith, p.notes_in_lem)) (omega (arith, p.notes_in_lem, p.order))
 
-    cells_were : (k : ℕ) → k ≤ from.cells → last_cells s from.end k ≡ last_cells s₀ from.end k
+    cells_were : (k : ℕ) → k ≤ from.cells.left → last_cells s from.cells.end k ≡ last_cells s₀ from.cells.end k
     cells_were k few =
-        cells_agree s s₀ from.end from.end k (omega (arith, p.cells_in)) (omega (arith, p.cells_in))
-        (λ i pos upto. still.at (from.end - i) (omega (arith, p.cells_in)) (omega (arith, p.cells_in)))
+        cells_agree s s₀ from.cells.end from.cells.end k (omega (arith, p.cells_in)) (omega (arith, p.cells_in))
+        (λ i pos upto. still.at (from.cells.end - i) (omega (arith, p.cells_in)) (omega (arith, p.cells_in)))
 
 -- ---- the pass over the notes
 
 -- so many notes are left, and so many cells that each half's parts look at
 pub record Noting (s₀ s : List ℕ) (h : Header) (a b : Half) (from : Contents) (to : Ends) (at : Cursors) (left : ℕ) : Type 0 where
-  pub notes_few : left ≤ from.notes
-  pub closings_few : at.closings ≤ from.cells
+  pub notes_few : left ≤ from.notes.left
+  pub closings_few : at.closings ≤ from.cells.left
   pub order : at.openings ≤ at.closings
-  pub writes : BothWrites s₀ s to (places_of at) (gather note_words (notes_left h a s₀ from from.notes from.cells))
-      (gather note_words (notes_left h b s₀ from from.notes from.cells)) (gather note_words (notes_left h a s₀ from left at.closings))
+  pub writes : BothWrites s₀ s to at.to (gather note_words (notes_left h a s₀ from from.notes.left from.cells.left))
+      (gather note_words (notes_left h b s₀ from from.notes.left from.cells.left)) (gather note_words (notes_left h a s₀ from left at.closings))
       (gather note_words (notes_left h b s₀ from left at.openings))
 
 -- one half's notes, from the first of those that are left on
 module _ (s₀ : List ℕ) (h : Header) (v : Half) (ok : HalfOk h.delta v) (from : Contents) (left : ℕ) (n : Note)
-    (first : last_notes s₀ from.middle left ≡ n ∷ last_notes s₀ from.middle (left - 1)) (cells : ℕ) where
+    (first : last_notes s₀ from.notes.end left ≡ n ∷ last_notes s₀ from.notes.end (left - 1)) (cells : ℕ) where
   abbrev rest : List Note
-  rest = note_parts h v (last_notes s₀ from.middle (left - 1)) (passed v n (last_cells s₀ from.end cells))
+  rest = note_parts h v (last_notes s₀ from.notes.end (left - 1)) (passed v n (last_cells s₀ from.cells.end cells))
 
-  from_first : notes_left h v s₀ from left cells ≡ part_from h v n (last_cells s₀ from.end cells) ++ rest
+  from_first : notes_left h v s₀ from left cells ≡ part_from h v n (last_cells s₀ from.cells.end cells) ++ rest
   unfolding notes_left part_from
-  from_first = rw first (parts_step h v ok n (last_notes s₀ from.middle (left - 1)) (last_cells s₀ from.end cells))
+  from_first = rw first (parts_step h v ok n (last_notes s₀ from.notes.end (left - 1)) (last_cells s₀ from.cells.end cells))
 
-  first_fits : 4 * length (part_from h v n (last_cells s₀ from.end cells)) ≤ length (gather note_words (notes_left h v s₀ from left cells))
+  first_fits : 4 * length (part_from h v n (last_cells s₀ from.cells.end cells)) ≤ length (gather note_words (notes_left h v s₀ from left cells))
   first_fits =
       omega (
         arith,
         length-note_words (notes_left h v s₀ from left cells),
         ap length from_first,
-        length-append (part_from h v n (last_cells s₀ from.end cells)) rest,
+        length-append (part_from h v n (last_cells s₀ from.cells.end cells)) rest,
       )
 
-  words_from : (r : ℕ) → last_cells s₀ from.end r ≡ passed v n (last_cells s₀ from.end cells)
+  words_from : (r : ℕ) → last_cells s₀ from.cells.end r ≡ passed v n (last_cells s₀ from.cells.end cells)
       → gather note_words (notes_left h v s₀ from left cells)
-      ≡ gather note_words (part_from h v n (last_cells s₀ from.end cells)) ++ gather note_words (notes_left h v s₀ from (left - 1) r)
+      ≡ gather note_words (part_from h v n (last_cells s₀ from.cells.end cells)) ++ gather note_words (notes_left h v s₀ from (left - 1) r)
   unfolding notes_left
-  words_from r e = ap (gather note_words) from_first ∙ gather_append note_words (part_from h v n (last_cells s₀ from.end cells)) rest ∙ rw (← e)
+  words_from r e = ap (gather note_words) from_first ∙ gather_append note_words (part_from h v n (last_cells s₀ from.cells.end cells)) rest ∙ rw (← e)
 
 no_words : (s : List ℕ) (h : Header) (v : Half) (from : Contents) (cells : ℕ) → gather note_words (notes_left h v s from 0 cells) ≡ []
 unfolding notes_left
-no_words s h v from cells = rw (no_notes s from.middle, no_parts h v (last_cells s from.end cells))
+no_words s h v from cells = rw (no_notes s from.notes.end, no_parts h v (last_cells s from.cells.end cells))
 
 module _ {s₀ : List ℕ} {h : Header} {a b : Half} {from : Contents} {to : Ends} (q : NotesAsks s₀ h a b from to) where
-  lefts : length (gather note_words (notes_left h a s₀ from from.notes from.cells)) ≡ 4 * length (notes_left h a s₀ from from.notes from.cells)
-  lefts = length-note_words (notes_left h a s₀ from from.notes from.cells)
+  lefts : length (gather note_words (notes_left h a s₀ from from.notes.left from.cells.left)) ≡ 4 * length (notes_left h a s₀ from from.notes.left from.cells.left)
+  lefts = length-note_words (notes_left h a s₀ from from.notes.left from.cells.left)
 
-  rights : length (gather note_words (notes_left h b s₀ from from.notes from.cells)) ≡ 4 * length (notes_left h b s₀ from from.notes from.cells)
-  rights = length-note_words (notes_left h b s₀ from from.notes from.cells)
+  rights : length (gather note_words (notes_left h b s₀ from from.notes.left from.cells.left)) ≡ 4 * length (notes_left h b s₀ from from.notes.left from.cells.left)
+  rights = length-note_words (notes_left h b s₀ from from.notes.left from.cells.left)
 
-  pub noting_start : Noting s₀ s₀ h a b from to (record { left = to.left; right = to.right; closings = from.cells; openings = from.cells }) from.notes
+  pub noting_start : Noting s₀ s₀ h a b from to (record { to = to; closings = from.cells.left; openings = from.cells.left }) from.notes.left
   noting_start = record {
     notes_few = omega arith;
     closings_few = omega arith;
@@ -97,44 +97,41 @@ module _ {s₀ : List ℕ} {h : Header} {a b : Half} {from : Contents} {to : End
   }
 
   module _ {s : List ℕ} {at : Cursors} {left : ℕ} (l : Noting s₀ s h a b from to at left) where
-    inside : from.end ≤ length s
+    inside : from.cells.end ≤ length s
     inside = omega (arith, q.placed.inside, l.writes.long)
 
-    cells_now : (k : ℕ) → k ≤ from.cells → last_cells s from.end k ≡ last_cells s₀ from.end k
+    cells_now : (k : ℕ) → k ≤ from.cells.left → last_cells s from.cells.end k ≡ last_cells s₀ from.cells.end k
     cells_now = cells_were q.placed l.writes lefts rights
 
     module _ (more : 0 < left) where
-      pub note-place : 4 * left ≤ from.middle
+      pub note-place : 4 * left ≤ from.notes.end
       note-place = omega (arith, q.placed.notes_in_lem, l.notes_few)
 
-      pub note-room : from.middle - 4 * left + 4 ≤ length s
-      note-room = omega (arith, note-place, q.placed.order, inside)
+      module _ {n : Note} (is : n ≡ note_at s (from.notes.end - 4 * left)) where
+        first : last_notes s₀ from.notes.end left ≡ n ∷ last_notes s₀ from.notes.end (left - 1)
+        first = rw (is ∙ note_was q.placed l.writes lefts rights left more l.notes_few) (last_notes_lem s₀ from.notes.end left more note-place)
 
-      module _ {n : Note} (is : n ≡ note_at s (from.middle - 4 * left)) where
-        first : last_notes s₀ from.middle left ≡ n ∷ last_notes s₀ from.middle (left - 1)
-        first = rw (is ∙ note_was q.placed l.writes lefts rights left more l.notes_few) (last_notes_lem s₀ from.middle left more note-place)
-
-        closing_now : last_cells s from.end at.closings ≡ last_cells s₀ from.end at.closings
+        closing_now : last_cells s from.cells.end at.closings ≡ last_cells s₀ from.cells.end at.closings
         closing_now = cells_now at.closings l.closings_few
 
-        opening_now : last_cells s from.end at.openings ≡ last_cells s₀ from.end at.openings
+        opening_now : last_cells s from.cells.end at.openings ≡ last_cells s₀ from.cells.end at.openings
         opening_now = cells_now at.openings (omega (arith, l.closings_few, l.order))
 
-        left-fits : at.left + 4 * length (part_from h a n (last_cells s₀ from.end at.closings)) ≤ to.left + 4 * length (notes_left h a s₀ from from.notes from.cells)
+        left-fits : at.to.left + 4 * length (part_from h a n (last_cells s₀ from.cells.end at.closings)) ≤ to.left + 4 * length (notes_left h a s₀ from from.notes.left from.cells.left)
         left-fits = omega (arith, l.writes.left-place, lefts, first_fits s₀ h a q.left_half from left n first at.closings)
 
-        right-fits : at.right + 4 * length (part_from h b n (last_cells s₀ from.end at.openings)) ≤ to.right + 4 * length (notes_left h b s₀ from from.notes from.cells)
+        right-fits : at.to.right + 4 * length (part_from h b n (last_cells s₀ from.cells.end at.openings)) ≤ to.right + 4 * length (notes_left h b s₀ from from.notes.left from.cells.left)
         right-fits = omega (arith, l.writes.right-place, rights, first_fits s₀ h b q.right_half from left n first at.openings)
 
-        cells-apart : Apart (from.end - 6 * at.openings) (6 * at.openings) at.left (4 * length (part_from h a n (last_cells s₀ from.end at.closings)))
+        cells-apart : Apart (from.cells.end - 6 * at.openings) (6 * at.openings) at.to.left (4 * length (part_from h a n (last_cells s₀ from.cells.end at.closings)))
         cells-apart =
             apart_swap
-            (apart-within (from.end - 6 * at.openings) (6 * at.openings)
-            (apart_swap (apart-within at.left (4 * length (part_from h a n (last_cells s₀ from.end at.closings))) q.placed.left-from l.writes.left_low left-fits))
+            (apart-within (from.cells.end - 6 * at.openings) (6 * at.openings)
+            (apart_swap (apart-within at.to.left (4 * length (part_from h a n (last_cells s₀ from.cells.end at.closings))) q.placed.left-from l.writes.left_low left-fits))
             (omega (arith, q.placed.cells_in, l.closings_few, l.order))
             (omega (arith, q.placed.cells_in, l.closings_few, l.order)))
 
-        pub parts_asks : PartsAsks s h a b n from.end at
+        pub parts_asks : PartsAsks s h a b n from.cells.end at
         parts_asks = record {
           sides = q.sides;
           closings_in = omega (arith, q.placed.cells_in, l.closings_few);
@@ -145,13 +142,13 @@ module _ {s₀ : List ℕ} {h : Header} {a b : Half} {from : Contents} {to : End
           apart = rw closing_now cells-apart;
         }
 
-        pub noting_note : {t : List ℕ} {r : Cursors} → PartsPut s h a b n from.end at t r → Noting s₀ t h a b from to r (left - 1)
+        pub noting_note : {t : List ℕ} {r : Cursors} → PartsPut s h a b n from.cells.end at t r → Noting s₀ t h a b from to r (left - 1)
         noting_note {t} {r} m =
-            let few-closings : r.closings ≤ from.cells = omega (arith, m.closings_few, l.closings_few) in
-            let few-openings : r.openings ≤ from.cells = omega (arith, m.order, few-closings) in
-            let closed : last_cells s₀ from.end r.closings ≡ passed a n (last_cells s₀ from.end at.closings) =
+            let few-closings : r.closings ≤ from.cells.left = omega (arith, m.closings_few, l.closings_few) in
+            let few-openings : r.openings ≤ from.cells.left = omega (arith, m.order, few-closings) in
+            let closed : last_cells s₀ from.cells.end r.closings ≡ passed a n (last_cells s₀ from.cells.end at.closings) =
             sym (cells_now r.closings few-closings) ∙ m.closings_are ∙ ap (passed a n) closing_now in
-            let opened : last_cells s₀ from.end r.openings ≡ passed b n (last_cells s₀ from.end at.openings) =
+            let opened : last_cells s₀ from.cells.end r.openings ≡ passed b n (last_cells s₀ from.cells.end at.openings) =
             sym (cells_now r.openings few-openings) ∙ m.openings_are ∙ ap (passed b n) opening_now in
             record {
               notes_few = omega (arith, l.notes_few);
@@ -167,7 +164,7 @@ module _ {s₀ : List ℕ} {h : Header} {a b : Half} {from : Contents} {to : End
             }
 
     pub notes-done : left ≤ 0
-        → BothPut s₀ to (gather note_words (notes_left h a s₀ from from.notes from.cells)) (gather note_words (notes_left h b s₀ from from.notes from.cells)) s (places_of at)
+        → BothPut s₀ to (gather note_words (notes_left h a s₀ from from.notes.left from.cells.left)) (gather note_words (notes_left h b s₀ from from.notes.left from.cells.left)) s at.to
     notes-done over =
         let zero_left : left ≡ 0 = omega arith in
         both-done (rw (zero_left, no_words s₀ h a from at.closings, no_words s₀ h b from at.openings) at l.writes)
@@ -175,8 +172,8 @@ module _ {s₀ : List ℕ} {h : Header} {a b : Half} {from : Contents} {to : End
 -- ---- the pass over the cells
 
 pub record Celling (s₀ s : List ℕ) (k : ℕ) (from : Contents) (to at : Ends) (left : ℕ) : Type 0 where
-  pub cells_few : left ≤ from.cells
-  pub writes : BothWrites s₀ s to at (gather cell_words (left_cells k s₀ from from.cells)) (gather cell_words (right_cells k s₀ from from.cells))
+  pub cells_few : left ≤ from.cells.left
+  pub writes : BothWrites s₀ s to at (gather cell_words (left_cells k s₀ from from.cells.left)) (gather cell_words (right_cells k s₀ from from.cells.left))
       (gather cell_words (left_cells k s₀ from left)) (gather cell_words (right_cells k s₀ from left))
 
 -- a half's cells, from the first of those that are left on
@@ -190,49 +187,46 @@ module _ (f : Cell → List Cell) (c : Cell) (cs : List Cell) where
 module _ (k : ℕ) (s : List ℕ) (from : Contents) where
   no_left : gather cell_words (left_cells k s from 0) ≡ []
   unfolding left_cells
-  no_left = ap (λ (cs : List Cell). gather cell_words (gather (left_cell k) cs)) (no_cells s from.end)
+  no_left = ap (λ (cs : List Cell). gather cell_words (gather (left_cell k) cs)) (no_cells s from.cells.end)
 
   no_right : gather cell_words (right_cells k s from 0) ≡ []
   unfolding right_cells
-  no_right = ap (λ (cs : List Cell). gather cell_words (gather (right_cell k) cs)) (no_cells s from.end)
+  no_right = ap (λ (cs : List Cell). gather cell_words (gather (right_cell k) cs)) (no_cells s from.cells.end)
 
 module _ {s₀ : List ℕ} {k : ℕ} {from : Contents} {to : Ends} (q : CellsAsks s₀ k from to) where
-  left_sized : length (gather cell_words (left_cells k s₀ from from.cells)) ≡ 6 * length (left_cells k s₀ from from.cells)
-  left_sized = length-cell_words (left_cells k s₀ from from.cells)
+  left_sized : length (gather cell_words (left_cells k s₀ from from.cells.left)) ≡ 6 * length (left_cells k s₀ from from.cells.left)
+  left_sized = length-cell_words (left_cells k s₀ from from.cells.left)
 
-  right_sized : length (gather cell_words (right_cells k s₀ from from.cells)) ≡ 6 * length (right_cells k s₀ from from.cells)
-  right_sized = length-cell_words (right_cells k s₀ from from.cells)
+  right_sized : length (gather cell_words (right_cells k s₀ from from.cells.left)) ≡ 6 * length (right_cells k s₀ from from.cells.left)
+  right_sized = length-cell_words (right_cells k s₀ from from.cells.left)
 
-  pub celling_start : Celling s₀ s₀ k from to to from.cells
+  pub celling_start : Celling s₀ s₀ k from to to from.cells.left
   celling_start = record { cells_few = omega arith; writes = both-start s₀ to _ _ (rw (left_sized, right_sized) q.placed.apart) }
 
   module _ {s : List ℕ} {at : Ends} {left : ℕ} (l : Celling s₀ s k from to at left) where
     module _ (more : 0 < left) where
-      pub cell_place : 6 * left ≤ from.end
+      pub cell_place : 6 * left ≤ from.cells.end
       cell_place = omega (arith, q.placed.cells_in, l.cells_few)
 
-      pub cell_room : from.end - 6 * left + 6 ≤ length s
-      cell_room = omega (arith, cell_place, q.placed.inside, l.writes.long)
-
-      module _ {c : Cell} (is : c ≡ cell_at s (from.end - 6 * left)) where
-        first_cell : last_cells s₀ from.end left ≡ c ∷ last_cells s₀ from.end (left - 1)
+      module _ {c : Cell} (is : c ≡ cell_at s (from.cells.end - 6 * left)) where
+        first_cell : last_cells s₀ from.cells.end left ≡ c ∷ last_cells s₀ from.cells.end (left - 1)
         first_cell =
             let was = cells_were q.placed l.writes left_sized right_sized in
-            sym (was left l.cells_few) ∙ last_cells_lem s from.end left more cell_place ∙ rw (← is, was (left - 1) (omega (arith, l.cells_few)))
+            sym (was left l.cells_few) ∙ last_cells_lem s from.cells.end left more cell_place ∙ rw (← is, was (left - 1) (omega (arith, l.cells_few)))
 
         left-from : gather cell_words (left_cells k s₀ from left) ≡ gather cell_words (left_cell k c) ++ gather cell_words (left_cells k s₀ from (left - 1))
         unfolding left_cells
-        left-from = rw first_cell (cells_from (left_cell k) c (last_cells s₀ from.end (left - 1)))
+        left-from = rw first_cell (cells_from (left_cell k) c (last_cells s₀ from.cells.end (left - 1)))
 
         right-from : gather cell_words (right_cells k s₀ from left) ≡ gather cell_words (right_cell k c) ++ gather cell_words (right_cells k s₀ from (left - 1))
         unfolding right_cells
-        right-from = rw first_cell (cells_from (right_cell k) c (last_cells s₀ from.end (left - 1)))
+        right-from = rw first_cell (cells_from (right_cell k) c (last_cells s₀ from.cells.end (left - 1)))
 
         pub cell_asks : (at.left + 6 * length (left_cell k c) ≤ length s) × (at.right + 6 * length (right_cell k c) ≤ length s)
         unfolding left_cells right_cells
         cell_asks =
             let w = l.writes in
-            let cs = last_cells s₀ from.end (left - 1) in
+            let cs = last_cells s₀ from.cells.end (left - 1) in
             let lefts : 6 * length (left_cell k c) ≤ length (gather cell_words (left_cells k s₀ from left)) = rw first_cell (cell-fits (left_cell k) c cs) in
             let rights : 6 * length (right_cell k c) ≤ length (gather cell_words (right_cells k s₀ from left)) = rw first_cell (cell-fits (right_cell k) c cs) in
             (omega (arith, lefts, w.left-place, w.long, q.placed.left-room, left_sized), omega (arith, rights, w.right-place, w.long, q.placed.right-room, right_sized))
@@ -242,7 +236,7 @@ module _ {s₀ : List ℕ} {k : ℕ} {from : Contents} {to : Ends} (q : CellsAsk
         celling_cell m = record { cells_few = omega (arith, l.cells_few); writes = both_turn (rw (left-from, right-from) at l.writes) m }
 
     pub cells-done : left ≤ 0
-        → BothPut s₀ to (gather cell_words (left_cells k s₀ from from.cells)) (gather cell_words (right_cells k s₀ from from.cells)) s at
+        → BothPut s₀ to (gather cell_words (left_cells k s₀ from from.cells.left)) (gather cell_words (right_cells k s₀ from from.cells.left)) s at
     cells-done over =
         let zero_left : left ≡ 0 = omega arith in
         both-done (rw (zero_left, no_left k s₀ from, no_right k s₀ from) at l.writes)

@@ -26,7 +26,7 @@ use Rattle.session.specs.Reading.{last_notes, last_cells}
 use Rattle.session.proofs.Sources.{shelf-inside}
 use Rattle.cuts.specs.declared.halves.Half.{Half}
 use Rattle.cuts.specs.declared.halves.Contents.{Contents}
-use Rattle.cuts.specs.Halving.{half_of, note_parts, contents_at, max_session, notes_left, Placed, HalfAsks}
+use Rattle.cuts.specs.Halving.{is_right, half_of, note_parts, contents_at, max_session, notes_left, Placed, HalfAsks}
 use Rattle.cuts.specs.BothHalves.{left_cell, right_cell}
 use Rattle.cuts.proofs.Passes.{notes_agree, cells_agree, parts-right, parts-left}
 use Rattle.cuts.proofs.TakeWords.{take-room}
@@ -46,6 +46,12 @@ module _ (h : Header) where
       go true e = ahead (omega (arith, suc-mul i h.words, mul-le-mul_right h.words (leb-true (suc i) j e)))
       go false e = let less : suc j ≤ i = omega (arith, leb-false (suc i) j e) in behind (omega (arith, suc-mul j h.words, mul-le-mul_right h.words less))
 
+-- the place of a shelf, whose counts are read
+pub counts_place : {n : ℕ} {h : Header} {i : ℕ} → InRange h n → i < h.shelves → {at : ℕ} → at ≡ shelf_at h i → (at ≤ max_session) × (at + 3 ≤ n)
+counts_place {n} {h} {i} r below e =
+    let inside = shelf-inside h i n r below in
+    rw e (omega (arith, inside, r.exact, mul-le-mul r.few_shelves r.small), omega (arith, inside, r.large))
+
 -- ---- cells
 
 keep-gather : (p : Cell → Bool) (cs : List Cell) → keep p cs ≡ gather (λ c. cons_if (p c) c []) cs
@@ -57,11 +63,11 @@ keep-gather p (c ∷ cs) = go (p c) (keep-gather p cs)
     go false e = e
 
 module _ (δ : ℕ) (v : Half) (t : Take) where
-  pub left_cells_lem : v.right ≡ false → gather (left_cell v.beat) t.cells ≡ (half_of δ v t).cells
+  pub left_cells_lem : is_right v.side ≡ false → gather (left_cell v.beat) t.cells ≡ (half_of δ v t).cells
   unfolding half_of left_cell
   left_cells_lem e = sym (keep-gather (λ c. ltb c.beat v.beat) t.cells) ∙ sym (left_half-cells δ v.beat t) ∙ rw e
 
-  pub right_cells_lem : v.right ≡ true → gather (right_cell v.beat) t.cells ≡ (half_of δ v t).cells
+  pub right_cells_lem : is_right v.side ≡ true → gather (right_cell v.beat) t.cells ≡ (half_of δ v t).cells
   unfolding half_of right_cell
   right_cells_lem e = sym (right_half-cells δ v.beat t) ∙ rw e
 
@@ -95,11 +101,11 @@ module _ {s : List ℕ} {h : Header} {v : Half} {i j : ℕ} (a : HalfAsks s h v 
 
   -- the notes and cells of the shelf that is read are its take's
   pub record Read (from : Contents) : Type 0 where
-    pub middle_is : from.middle ≡ shelf_at h i + 3 + 4 * from.notes
-    pub end_is : from.end ≡ from.middle + 6 * from.cells
-    pub used_is : 3 + 4 * from.notes + 6 * from.cells ≤ h.words
-    pub notes_are : last_notes s from.middle from.notes ≡ notes_of h t
-    pub cells_are : last_cells s from.end from.cells ≡ t.cells
+    pub middle_is : from.notes.end ≡ shelf_at h i + 3 + 4 * from.notes.left
+    pub end_is : from.cells.end ≡ from.notes.end + 6 * from.cells.left
+    pub used_is : 3 + 4 * from.notes.left + 6 * from.cells.left ≤ h.words
+    pub notes_are : last_notes s from.notes.end from.notes.left ≡ notes_of h t
+    pub cells_are : last_cells s from.cells.end from.cells.left ≡ t.cells
 
   notes_in_lem : (N : ℕ) → N ≡ word ws 1 → 3 + 4 * N ≤ h.words → last_notes s (shelf_at h i + 3 + 4 * N) N ≡ notes_of h t
   unfolding last_notes
@@ -121,13 +127,13 @@ module _ {s : List ℕ} {h : Header} {v : Half} {i j : ℕ} (a : HalfAsks s h v 
       behind-notes : last_cells ws (3 + 4 * N + 6 * C) C ≡ t.cells
       behind-notes = let place : 3 + 4 * N + 6 * C - 6 * C ≡ 3 + 4 * N = omega arith in rw (place, e, f)
 
-  pub read : {from : Contents} {at : ℕ} → at ≡ shelf_at h i → from ≡ contents_at s at → Read from
+  pub read : {from : Contents} → from ≡ contents_at s (shelf_at h i) → Read from
   unfolding contents_at
-  read {from} {at} e f =
+  read {from} f =
       let N : word s (shelf_at h i + 1) ≡ word ws 1 = sym (word_is 1 (omega (arith, range.large))) in
       let C : word s (shelf_at h i + 2) ≡ word ws 2 = sym (word_is 2 (omega (arith, range.large))) in
       let few : 3 + 4 * word s (shelf_at h i + 1) + 6 * word s (shelf_at h i + 2) ≤ h.words = omega (arith, used, N, C) in
-      rw (f, e)
+      rw f
       (record {
         middle_is = refl;
         end_is = refl;
@@ -139,9 +145,9 @@ module _ {s : List ℕ} {h : Header} {v : Half} {i j : ℕ} (a : HalfAsks s h v 
   -- what the half has, and that it fits
   half-notes : note_parts h v (notes_of h t) t.cells ≡ notes_of h half
   unfolding half_of
-  half-notes = go v.right refl
+  half-notes = go (is_right v.side) refl
     where
-      go : (b : Bool) → v.right ≡ b → note_parts h v (notes_of h t) t.cells ≡ notes_of h half
+      go : (b : Bool) → is_right v.side ≡ b → note_parts h v (notes_of h t) t.cells ≡ notes_of h half
       go true e =
           parts-right h v a.half e (notes_of h t) t.cells
           ∙ sym (right_pass h range.some-ticks range.kept-within t (sound_solid h range.some-ticks ws a.sound) v.beat)
@@ -153,12 +159,12 @@ module _ {s : List ℕ} {h : Header} {v : Half} {i j : ℕ} (a : HalfAsks s h v 
 
   pub half-fits : fits h half ≡ true
   unfolding half_of
-  half-fits = go v.right refl
+  half-fits = go (is_right v.side) refl
     where
       both : fits h (split_left h.delta v.beat t) && fits h (split_right h.delta v.beat t) ≡ true
       both = split_fits h range.some-ticks range.kept-within ws a.sound v.beat
 
-      go : (b : Bool) → v.right ≡ b → fits h half ≡ true
+      go : (b : Bool) → is_right v.side ≡ b → fits h half ≡ true
       go true e = rw e (and_right (fits h (split_left h.delta v.beat t)) (fits h (split_right h.delta v.beat t)) both)
       go false e = rw e (and_left (fits h (split_left h.delta v.beat t)) (fits h (split_right h.delta v.beat t)) both)
 
@@ -167,11 +173,8 @@ module _ {s : List ℕ} {h : Header} {v : Half} {i j : ℕ} (a : HalfAsks s h v 
 
   -- ---- what the functions ask
 
-  pub contents_asks : {at : ℕ} → at ≡ shelf_at h i → (at ≤ max_session) × (at + 3 ≤ length s)
-  contents_asks e = rw e (omega (arith, source_inside, range.exact, mul-le-mul range.few_shelves range.small), omega (arith, source_inside, range.large))
-
   module _ {from : Contents} (r : Read from) where
-    pub notes_left_lem : notes_left h v s from from.notes from.cells ≡ notes_of h half
+    pub notes_left_lem : notes_left h v s from from.notes.left from.cells.left ≡ notes_of h half
     unfolding notes_left
     notes_left_lem = rw (r.notes_are, r.cells_are) half-notes
 
@@ -186,7 +189,7 @@ module _ {s : List ℕ} {h : Header} {v : Half} {i j : ℕ} (a : HalfAsks s h v 
           inside = omega (arith, r, source_inside);
           apart =
               apart-within to size
-              (apart_swap (apart-within (shelf_at h i) (from.end - shelf_at h i) (apart_swap (shelves_apart h i j a.differ)) (omega arith) (omega (arith, r))))
+              (apart_swap (apart-within (shelf_at h i) (from.cells.end - shelf_at h i) (apart_swap (shelves_apart h i j a.differ)) (omega arith) (omega (arith, r))))
               low high;
           room = omega (arith, target_inside);
         }

@@ -1,5 +1,5 @@
 -- The joined cells of two takes, written by one walk over both. Assumes nothing.
-use mathlib.Core.Path.{◌≡◌, refl, sym, ap, ◌∙◌}
+use mathlib.Core.Path.{◌≡◌, refl, sym, ap, subst, ◌∙◌}
 use mathlib.Core.Bool.{Bool, true, false}
 use mathlib.Core.List.{List, [], ◌∷◌, ◌++◌, map, append_assoc}
 use Prim.Native.Nat.{ℕ, zero, suc, ◌+◌, ◌-◌, ◌*◌, ◌≤◌, ◌<◌}
@@ -10,7 +10,7 @@ use lib.ListN.{length, length-append}
 use Rattle.words.specs.Apart.{Apart, apart-within, apart_swap}
 use Rattle.words.specs.Parts.{Same}
 use Rattle.words.specs.Splice.{splice, length-splice, splice-append}
-use Rattle.words.specs.Writes.{Writes, writes_start, writes-run, writes-done, writes_same}
+use Rattle.words.specs.Writes.{Writes, writes-run, writes-done, writes_same}
 use Rattle.model.specs.Lists.{gather}
 use Rattle.model.specs.Takes.{cell_words}
 use Rattle.model.specs.declared.Cell.{Cell}
@@ -22,6 +22,7 @@ use Rattle.laws.specs.Sessions.{length-cell_words}
 use Rattle.session.specs.Reading.{cell_at, last_cells}
 use Rattle.session.proofs.Lasts.{no_cells, last_cells_lem}
 use Rattle.cuts.specs.declared.halves.Contents.{Contents}
+use Rattle.cuts.specs.declared.lasts.Last.{Last}
 use Rattle.cuts.specs.Making.{Made}
 use Rattle.cuts.specs.Joined.{lower_cells, upper_cells, later_cells, Movable, RunAsks, LowerAsks, Lowered, before, BeforeAsks, PutBefore, cells_joined, JoinedAsks}
 use Rattle.cuts.proofs.Passes.{cells_agree}
@@ -100,23 +101,17 @@ pub record Lowering (s₀ s : List ℕ) (to lane beats end left₀ at left : ℕ
   pub writes : Writes s₀ s to at (gather cell_words (lower_cells lane (later_cells beats s₀ end left₀))) (gather cell_words (lower_cells lane (later_cells beats s₀ end left)))
   pub rest : upper_cells lane (later_cells beats s₀ end left) ≡ upper_cells lane (later_cells beats s₀ end left₀)
 
-module _ {s₀ : List ℕ} {to lane beats end left₀ : ℕ} (a : LowerAsks s₀ to lane beats end left₀) where
-  pub lowering_start : Lowering s₀ s₀ to lane beats end left₀ to left₀
-  lowering_start = record { few = omega arith; place = refl; writes = writes_start s₀ to _; rest = refl }
-
+module _ {s₀ : List ℕ} {to lane beats end left₀ : ℕ} (fits : 6 * left₀ ≤ end) (a : LowerAsks s₀ to lane beats end left₀) where
   module _ {s : List ℕ} {at left : ℕ} (l : Lowering s₀ s to lane beats end left₀ at left) where
     sized : length (gather cell_words (lower_cells lane (later_cells beats s₀ end left₀))) ≡ 6 * length (lower_cells lane (later_cells beats s₀ end left₀))
     sized = length-cell_words (lower_cells lane (later_cells beats s₀ end left₀))
 
     were : (k : ℕ) → k ≤ left₀ → last_cells s end k ≡ last_cells s₀ end k
-    were = run_were a.run.cells_in (writes_same l.writes (rw sized a.run.apart))
+    were = run_were fits (writes_same l.writes (rw sized a.run.apart))
 
     module _ (more : 0 < left) where
       pub lower-place : 6 * left ≤ end
-      lower-place = omega (arith, a.run.cells_in, l.few)
-
-      pub lower-inside : end - 6 * left + 6 ≤ length s
-      lower-inside = omega (arith, lower-place, a.run.inside, l.writes.long)
+      lower-place = omega (arith, fits, l.few)
 
       module _ {c : Cell} (is : c ≡ cell_at s (end - 6 * left)) where
         first : last_cells s₀ end left ≡ c ∷ last_cells s₀ end (left - 1)
@@ -127,7 +122,7 @@ module _ {s₀ : List ℕ} {to lane beats end left₀ : ℕ} (a : LowerAsks s₀
         later = rw first
 
         pub lower_movable : Movable beats c
-        lower_movable = (rw first at (all-last (Movable beats) s₀ end left₀ left l.few a.run.cells_in a.run.movable)).0
+        lower_movable = (rw first at (all-last (Movable beats) s₀ end left₀ left l.few fits a.run.movable)).0
 
         -- a cell of a lower lane
         module _ (less : c.lane < lane) where
@@ -163,14 +158,15 @@ module _ {s₀ : List ℕ} {to lane beats end left₀ : ℕ} (a : LowerAsks s₀
             let w = rw none at l.writes in
             record { words = writes-done w; rest = all ∙ l.rest; count = omega (arith, w.place, sized, l.place) }
 
-    pub lowered_end : left ≤ 0 → Lowered s₀ to lane beats end left₀ s left
+    pub lowered_end : {r : ℕ} → r ≡ 0 → left ≤ 0 → Lowered s₀ to lane beats end left₀ s r
     unfolding later_cells
-    lowered_end over =
+    lowered_end {r} none_left over =
         let z : left ≡ 0 = omega arith in
+        let is : r ≡ left = omega arith in
         let no : later_cells beats s₀ end left ≡ [] = rw (z, no_cells s₀ end) in
         let none : lower_cells lane (later_cells beats s₀ end left) ≡ [] = rw no (lower-none lane) in
         let w = rw none at l.writes in
-        record { words = writes-done w; rest = no ∙ sym (upper_none lane) ∙ ap (upper_cells lane) (sym no) ∙ l.rest; count = omega (arith, w.place, sized, l.place) }
+        rw is (record { words = writes-done w; rest = no ∙ sym (upper_none lane) ∙ ap (upper_cells lane) (sym no) ∙ l.rest; count = omega (arith, w.place, sized, l.place) })
 
 -- ---- and a cell of the first behind them
 
@@ -187,7 +183,6 @@ module _ {s : List ℕ} {to : ℕ} {c : Cell} {beats end left : ℕ} (a : Before
       record {
         run =
             record {
-              cells_in = a.run.cells_in;
               inside = a.run.inside;
               movable = a.run.movable;
               apart = apart-within to (6 * length lower) a.run.apart (omega arith) (omega (arith, one_more));
@@ -214,10 +209,11 @@ module _ {s : List ℕ} {to : ℕ} {c : Cell} {beats end left : ℕ} (a : Before
 
 -- ---- the walk over both
 
-pub record Joining (s₀ s : List ℕ) (to beats : ℕ) (first second : Contents) (at left rest : ℕ) : Type 0 where
-  pub few : left ≤ first.cells
-  pub rest_few : rest ≤ second.cells
-  pub writes : Writes s₀ s to at (gather cell_words (cells_joined beats s₀ first second first.cells second.cells)) (gather cell_words (cells_joined beats s₀ first second left rest))
+pub record Joining (s₀ s : List ℕ) (to beats : ℕ) (first second : Contents) (at left : ℕ) (rest : Last 6) : Type 0 where
+  pub few : left ≤ first.cells.left
+  pub rest_end : rest.end ≡ second.cells.end
+  pub rest_few : rest.left ≤ second.cells.left
+  pub writes : Writes s₀ s to at (gather cell_words (cells_joined beats s₀ first second first.cells.left second.cells.left)) (gather cell_words (cells_joined beats s₀ first second left rest.left))
 
 -- cells below lane 2,048 are all lower
 lower-all : (beats : ℕ) (cs : List Cell) → All (Movable beats) cs → lower_cells 2048 (map (cell_later beats) cs) ≡ map (cell_later beats) cs
@@ -227,121 +223,131 @@ lower-all beats (c ∷ cs) a =
 
 module _ {s₀ : List ℕ} {to beats : ℕ} {first second : Contents} (a : JoinedAsks s₀ to beats first second) where
   abbrev all : List Cell
-  all = cells_joined beats s₀ first second first.cells second.cells
+  all = cells_joined beats s₀ first second first.cells.left second.cells.left
 
-  pub joining_start : Joining s₀ s₀ to beats first second to first.cells second.cells
-  joining_start = record { few = omega arith; rest_few = omega arith; writes = writes_start s₀ to _ }
-
-  module _ {s : List ℕ} {at left rest : ℕ} (l : Joining s₀ s to beats first second at left rest) where
+  module _ {s : List ℕ} {at left : ℕ} {rest : Last 6} (l : Joining s₀ s to beats first second at left rest) where
     all_sized : length (gather cell_words all) ≡ 6 * length all
     all_sized = length-cell_words all
 
-    first_were : (k : ℕ) → k ≤ first.cells → last_cells s first.end k ≡ last_cells s₀ first.end k
-    first_were = run_were a.first_in (writes_same l.writes (rw all_sized a.first-apart))
+    first_were : (k : ℕ) → k ≤ first.cells.left → last_cells s first.cells.end k ≡ last_cells s₀ first.cells.end k
+    first_were = run_were first.cells.fits (writes_same l.writes (rw all_sized a.first-apart))
 
-    second_were : (k : ℕ) → k ≤ second.cells → last_cells s second.end k ≡ last_cells s₀ second.end k
-    second_were = run_were a.run.cells_in (writes_same l.writes (rw all_sized a.run.apart))
+    second_were : (k : ℕ) → k ≤ second.cells.left → last_cells s second.cells.end k ≡ last_cells s₀ second.cells.end k
+    second_were = run_were second.cells.fits (writes_same l.writes (rw all_sized a.run.apart))
 
-    later_were : (k : ℕ) → k ≤ second.cells → later_cells beats s second.end k ≡ later_cells beats s₀ second.end k
+    later_were : (k : ℕ) → k ≤ second.cells.left → later_cells beats s second.cells.end k ≡ later_cells beats s₀ second.cells.end k
     unfolding later_cells
     later_were k few = rw (second_were k few)
 
     -- the second's cells that are left can be read while so many words are written
-    rest-run : (size : ℕ) → at + size ≤ to + 6 * length all → RunAsks s beats second.end rest at size
+    rest-run : (size : ℕ) → at + size ≤ to + 6 * length all → RunAsks s beats second.cells.end rest.left at size
     rest-run size fits =
         let low = l.writes.low in
-        let in-run : Apart (second.end - 6 * second.cells) (6 * second.cells) at size = apart-within at size a.run.apart low fits in
+        let in-run : Apart (second.cells.end - 6 * second.cells.left) (6 * second.cells.left) at size = apart-within at size a.run.apart low fits in
         record {
-          cells_in = omega (arith, a.run.cells_in, l.rest_few);
           inside = omega (arith, a.run.inside, l.writes.long);
-          movable = rw (second_were rest l.rest_few) (all-last (Movable beats) s₀ second.end second.cells rest l.rest_few a.run.cells_in a.run.movable);
-          apart = apart_swap (apart-within (second.end - 6 * rest) (6 * rest) (apart_swap in-run) (omega (arith, l.rest_few)) (omega (arith, l.rest_few, a.run.cells_in)));
+          movable = rw (second_were rest.left l.rest_few) (all-last (Movable beats) s₀ second.cells.end second.cells.left rest.left l.rest_few second.cells.fits a.run.movable);
+          apart = apart_swap (apart-within (second.cells.end - 6 * rest.left) (6 * rest.left) (apart_swap in-run) (omega (arith, l.rest_few)) (omega (arith, l.rest_few, second.cells.fits)));
           room = omega (arith, a.run.room, l.writes.long);
         }
 
     module _ (more : 0 < left) where
-      pub first_place : 6 * left ≤ first.end
-      first_place = omega (arith, a.first_in, l.few)
+      pub first_place : 6 * left ≤ first.cells.end
+      first_place = omega (arith, first.cells.fits, l.few)
 
-      pub first-room : first.end - 6 * left + 6 ≤ length s
-      first-room = omega (arith, first_place, a.first-inside, l.writes.long)
-
-      module _ {c : Cell} (is : c ≡ cell_at s (first.end - 6 * left)) where
-        next_cell : last_cells s₀ first.end left ≡ c ∷ last_cells s₀ first.end (left - 1)
-        next_cell = sym (first_were left l.few) ∙ last_cells_lem s first.end left more first_place ∙ rw (← is, first_were (left - 1) (omega (arith, l.few)))
+      module _ {c : Cell} (is : c ≡ cell_at s (first.cells.end - 6 * left)) where
+        next_cell : last_cells s₀ first.cells.end left ≡ c ∷ last_cells s₀ first.cells.end (left - 1)
+        next_cell = sym (first_were left l.few) ∙ last_cells_lem s first.cells.end left more first_place ∙ rw (← is, first_were (left - 1) (omega (arith, l.few)))
 
         part : List Cell
-        part = before beats s c second.end rest
+        part = before beats s c second.cells.end rest.left
 
         abbrev behind : List Cell
-        behind = merge_lane (λ c. c.lane) (last_cells s₀ first.end (left - 1)) (upper_cells c.lane (later_cells beats s₀ second.end rest))
+        behind = merge_lane (λ c. c.lane) (last_cells s₀ first.cells.end (left - 1)) (upper_cells c.lane (later_cells beats s₀ second.cells.end rest.left))
 
-        step : cells_joined beats s₀ first second left rest ≡ part ++ behind
+        step : cells_joined beats s₀ first second left rest.left ≡ part ++ behind
         unfolding cells_joined part before
         step =
-            let ds = later_cells beats s₀ second.end rest in
-            rw (next_cell, later_were rest l.rest_few)
-            (merge_step c (last_cells s₀ first.end (left - 1)) ds ∙ sym (append_assoc (lower_cells c.lane ds) (c ∷ []) behind))
+            let ds = later_cells beats s₀ second.cells.end rest.left in
+            rw (next_cell, later_were rest.left l.rest_few)
+            (merge_step c (last_cells s₀ first.cells.end (left - 1)) ds ∙ sym (append_assoc (lower_cells c.lane ds) (c ∷ []) behind))
 
         ahead_of : Writes s₀ s to at (gather cell_words all) (gather cell_words part ++ gather cell_words behind)
         ahead_of = rw (step, gather_append cell_words part behind) at l.writes
 
-        pub before_asks : BeforeAsks s at c beats second.end rest
+        there_asks : BeforeAsks s at c beats second.cells.end rest.left
         unfolding part
-        before_asks =
+        there_asks =
             record {
               run =
                   rest-run (6 * length part)
                   (omega (arith, ahead_of.place, all_sized, length-cell_words part, length-append (gather cell_words part) (gather cell_words behind)));
             }
 
-        module _ {t : List ℕ} {r : ℕ} (m : PutBefore s at c beats second.end rest t r) where
-          pub some_fewer : r ≤ rest
+        pub before_asks : BeforeAsks s at c beats rest.end rest.left
+        before_asks = subst (λ (e : ℕ). BeforeAsks s at c beats e rest.left) (sym l.rest_end) there_asks
+
+        module _ {t : List ℕ} {next : ℕ} (put : PutBefore s at c beats rest.end rest.left t next) where
+          m : PutBefore s at c beats second.cells.end rest.left t next
+          m = subst (λ (e : ℕ). PutBefore s at c beats e rest.left t next) l.rest_end put
+
+          pub some_fewer : next ≤ rest.left
           unfolding before
           some_fewer =
-              omega (arith, m.count, length-append (lower_cells c.lane (later_cells beats s second.end rest)) (c ∷ []))
+              omega (arith, m.count, length-append (lower_cells c.lane (later_cells beats s second.cells.end rest.left)) (c ∷ []))
 
-          left_over : upper_cells c.lane (later_cells beats s₀ second.end rest) ≡ later_cells beats s₀ second.end r
-          left_over = rw (← later_were rest l.rest_few, ← later_were r (omega (arith, some_fewer, l.rest_few))) (sym m.rest)
+          left_over : upper_cells c.lane (later_cells beats s₀ second.cells.end rest.left) ≡ later_cells beats s₀ second.cells.end next
+          left_over = rw (← later_were rest.left l.rest_few, ← later_were next (omega (arith, some_fewer, l.rest_few))) (sym m.rest)
 
-          pub at_room : at + 6 * (rest - r) + 6 ≤ length s
+          pub at_room : at + 6 * (rest.left - next) + 6 ≤ length s
           unfolding part
-          at_room = omega (arith, m.count, some_fewer, before_asks.run.room)
+          at_room = omega (arith, m.count, some_fewer, there_asks.run.room)
 
-          pub joining_cell : Joining s₀ t to beats first second (at + (6 * (rest - r) + 6)) (left - 1) r
+          pub joining_cell : {r : Last 6} → r.left ≡ next → r.end ≡ rest.end → Joining s₀ t to beats first second (at + (6 * (rest.left - next) + 6)) (left - 1) r
           unfolding part cells_joined
-          joining_cell =
-              let size : 6 * length part ≡ 6 * (rest - r) + 6 = omega (arith, m.count, some_fewer) in
-              let next = writes-run (gather cell_words part) (6 * (rest - r) + 6) (length-cell_words part ∙ size) ahead_of in
-              record { few = omega (arith, l.few); rest_few = omega (arith, some_fewer, l.rest_few); writes = rw (← m.words, left_over) at next }
+          joining_cell {r} is end_is =
+              let size : 6 * length part ≡ 6 * (rest.left - next) + 6 = omega (arith, m.count, some_fewer) in
+              let written = writes-run (gather cell_words part) (6 * (rest.left - next) + 6) (length-cell_words part ∙ size) ahead_of in
+              record {
+                few = omega (arith, l.few);
+                rest_end = end_is ∙ l.rest_end;
+                rest_few = omega (arith, some_fewer, l.rest_few, is);
+                writes = rw is (rw (← m.words, left_over) at written);
+              }
 
     -- the first's cells are over
     module _ (over : left ≤ 0) where
-      over_is : cells_joined beats s₀ first second left rest ≡ lower_cells 2048 (later_cells beats s second.end rest)
+      over_is : cells_joined beats s₀ first second left rest.left ≡ lower_cells 2048 (later_cells beats s second.cells.end rest.left)
       unfolding cells_joined merge_lane later_cells
       over_is =
           let z : left ≡ 0 = omega arith in
-          let none : last_cells s₀ first.end left ≡ [] = ap (last_cells s₀ first.end) z ∙ no_cells s₀ first.end in
-          let fit = all-last (Movable beats) s₀ second.end second.cells rest l.rest_few a.run.cells_in a.run.movable in
-          rw (none, second_were rest l.rest_few) (sym (lower-all beats (last_cells s₀ second.end rest) fit))
+          let none : last_cells s₀ first.cells.end left ≡ [] = ap (last_cells s₀ first.cells.end) z ∙ no_cells s₀ first.cells.end in
+          let fit = all-last (Movable beats) s₀ second.cells.end second.cells.left rest.left l.rest_few second.cells.fits a.run.movable in
+          rw (none, second_were rest.left l.rest_few) (sym (lower-all beats (last_cells s₀ second.cells.end rest.left) fit))
 
-      last-ahead : Writes s₀ s to at (gather cell_words all) (gather cell_words (lower_cells 2048 (later_cells beats s second.end rest)))
+      last-ahead : Writes s₀ s to at (gather cell_words all) (gather cell_words (lower_cells 2048 (later_cells beats s second.cells.end rest.left)))
       last-ahead = rw over_is at l.writes
 
-      pub last_asks : LowerAsks s at 2048 beats second.end rest
-      last_asks =
+      over_asks : LowerAsks s at 2048 beats second.cells.end rest.left
+      over_asks =
           record {
             run =
-                rest-run (6 * length (lower_cells 2048 (later_cells beats s second.end rest)))
-                (omega (arith, last-ahead.place, all_sized, length-cell_words (lower_cells 2048 (later_cells beats s second.end rest))));
+                rest-run (6 * length (lower_cells 2048 (later_cells beats s second.cells.end rest.left)))
+                (omega (arith, last-ahead.place, all_sized, length-cell_words (lower_cells 2048 (later_cells beats s second.cells.end rest.left))));
           }
 
-      module _ {t : List ℕ} {r : ℕ} (m : Lowered s at 2048 beats second.end rest t r) where
-        pub joined-room : (r ≤ rest) × (at + 6 * (rest - r) ≤ length s)
-        joined-room = (omega (arith, m.count), omega (arith, m.count, last_asks.run.room))
+      pub last_asks : LowerAsks s at 2048 beats rest.end rest.left
+      last_asks = subst (λ (e : ℕ). LowerAsks s at 2048 beats e rest.left) (sym l.rest_end) over_asks
 
-        pub joined-done : Made s₀ to all t (at + 6 * (rest - r))
+      module _ {t : List ℕ} {r : ℕ} (put : Lowered s at 2048 beats rest.end rest.left t r) where
+        over_put : Lowered s at 2048 beats second.cells.end rest.left t r
+        over_put = subst (λ (e : ℕ). Lowered s at 2048 beats e rest.left t r) l.rest_end put
+
+        pub joined-room : (r ≤ rest.left) × (at + 6 * (rest.left - r) ≤ length s)
+        joined-room = (omega (arith, over_put.count), omega (arith, over_put.count, over_asks.run.room))
+
+        pub joined-done : Made s₀ to all t (at + 6 * (rest.left - r))
         joined-done = record {
-          words = m.words ∙ last-ahead.same;
-          behind = omega (arith, m.count, last-ahead.place, all_sized, length-cell_words (lower_cells 2048 (later_cells beats s second.end rest)));
+          words = over_put.words ∙ last-ahead.same;
+          behind = omega (arith, over_put.count, last-ahead.place, all_sized, length-cell_words (lower_cells 2048 (later_cells beats s second.cells.end rest.left)));
         }

@@ -20,11 +20,17 @@ use Rattle.session.proofs.Lasts.{no_cells, length_last, last_cells_lem}
 use Rattle.cuts.specs.declared.counting.CellRun.{CellRun}
 use Rattle.cuts.specs.declared.counting.SeamCount.{SeamCount}
 use Rattle.cuts.specs.declared.halves.Contents.{Contents}
+use Rattle.cuts.specs.declared.lasts.Last.{Last}
 use Rattle.cuts.specs.Counting.{count_of, pair_at, run_cells, RunAhead, RunAt, SeamsAsks}
-use Rattle.cuts.proofs.JoinSeam.{ahead-first, last-cell, nothing, run_go, run_stop}
+use Rattle.cuts.specs.Lasts.{lane_of_last}
+use Rattle.cuts.proofs.JoinSeam.{ahead-first, cell_lane, last-cell, nothing, run_go, run_stop}
 
 abbrev none : SeamCount
 none = record { pairs = 0; alone = 0 }
+
+-- none are counted
+pub counted_none : {r : SeamCount} → (r.pairs ≡ 0) × (r.alone ≡ 0) → r ≡ none
+counted_none e = λ i. record { pairs = e.0 i; alone = e.1 i }
 
 -- ---- a pair
 
@@ -44,59 +50,51 @@ module _ (h : Header) (k : ℕ) (c d : Cell) {b : Bool} (is : b ≡ bound_at h k
       let all : x + y ≡ one (stands_alone h c) + one (stands_alone h d) + 0 = omega (arith, f ∙ ap one e, f' ∙ ap one e') in
       rw (sym is ∙ not-false b t, all)
 
--- two cells that stand alone
-pub two_few : (h : Header) (c d : Cell) {p q : Bool} {x y : ℕ} → p ≡ stands_alone h c → x ≡ one p → q ≡ stands_alone h d → y ≡ one q → x + y ≤ 2
-two_few h c d e f e' f' = omega (arith, f ∙ ap one e, f' ∙ ap one e', one_few (stands_alone h c), one_few (stands_alone h d))
-
 -- ---- the cells of a lane
 
 module _ {s : List ℕ} {r : CellRun} (a : RunAhead s r) where
-  pub counted : r.left ≡ r.rest + length (run_cells s r)
+  pub counted : r.cells.left ≡ r.rest.left + length (run_cells s r)
   unfolding run_cells
   counted =
-      let cs = last_cells s r.end r.left in
+      let cs = last_cells s r.cells.end r.cells.left in
       omega (
         arith,
         ap length (run-rest (λ c. c.lane) r.lane cs),
         length-append (cell_run r.lane cs) (cell_rest r.lane cs),
         ap length a.rest_is,
-        length_last s r.end r.left,
-        length_last s r.end r.rest,
+        length_last s r.cells.end r.cells.left,
+        length_last s r.cells.end r.rest.left,
       )
 
   -- no cell is of the lane
-  pub run_empty : r.rest ≡ r.left → run_cells s r ≡ []
+  pub run_empty : r.rest.left ≡ r.cells.left → run_cells s r ≡ []
   run_empty e = nothing (run_cells s r) (omega (arith, counted))
 
-  module _ (some : r.rest ≡ r.left → ⊥) where
-    -- the places of its last and its first cell
-    pub last-place : (6 * (r.rest + 1) ≤ r.end) × (r.end - 6 * (r.rest + 1) + 6 ≤ length s)
-    last-place = (omega (arith, a.cells_in, a.fewer), omega (arith, a.cells_in, a.fewer, a.inside))
+  module _ (some : r.rest.left ≡ r.cells.left → ⊥) where
+    pub first_place : (6 * r.cells.left ≤ r.cells.end) × (r.cells.end - 6 * r.cells.left + 6 ≤ length s)
+    first_place = (omega (arith, r.cells.fits), omega (arith, r.cells.fits, a.fewer, a.inside))
 
-    pub first_place : (6 * r.left ≤ r.end) × (r.end - 6 * r.left + 6 ≤ length s)
-    first_place = (omega (arith, a.cells_in), omega (arith, a.cells_in, a.fewer, a.inside))
-
-    last_is : (d : Cell) → last_or d (run_cells s r) ≡ cell_at s (r.end - 6 * (r.rest + 1))
+    last_is : (d : Cell) → last_or d (run_cells s r) ≡ cell_at s (r.cells.end - 6 * (r.rest.left + 1))
     unfolding run_cells
-    last_is d = last-cell s r.lane r.end d r.left r.rest a.cells_in counted (omega (arith, a.fewer))
+    last_is d = last-cell s r.lane r.cells.end d r.cells.left r.rest.left r.cells.fits counted (omega (arith, a.fewer))
 
-    first_is : (d : Cell) → first_or d (run_cells s r) ≡ cell_at s (r.end - 6 * r.left)
+    first_is : (d : Cell) → first_or d (run_cells s r) ≡ cell_at s (r.cells.end - 6 * r.cells.left)
     unfolding run_cells
     first_is d = by (eqb c.lane r.lane) refl
       where
         c : Cell
-        c = cell_at s (r.end - 6 * r.left)
+        c = cell_at s (r.cells.end - 6 * r.cells.left)
 
         cs : List Cell
-        cs = last_cells s r.end (r.left - 1)
+        cs = last_cells s r.cells.end (r.cells.left - 1)
 
-        front : last_cells s r.end r.left ≡ c ∷ cs
-        front = last_cells_lem s r.end r.left (omega (arith, a.fewer)) a.cells_in
+        front : last_cells s r.cells.end r.cells.left ≡ c ∷ cs
+        front = last_cells_lem s r.cells.end r.cells.left (omega (arith, a.fewer)) r.cells.fits
 
-        by : (b : Bool) → eqb c.lane r.lane ≡ b → first_or d (cell_run r.lane (last_cells s r.end r.left)) ≡ c
+        by : (b : Bool) → eqb c.lane r.lane ≡ b → first_or d (cell_run r.lane (last_cells s r.cells.end r.cells.left)) ≡ c
         by true e = rw (ap (cell_run r.lane) front ∙ run_go (λ c. c.lane) r.lane c cs (eqb-true c.lane r.lane e))
         by false e =
-            let run : cell_run r.lane (last_cells s r.end r.left) ≡ [] = ap (cell_run r.lane) front ∙ run_stop (λ c. c.lane) r.lane c cs (λ f. true≢false (sym (eq-eqb c.lane r.lane f) ∙ e)) in
+            let run : cell_run r.lane (last_cells s r.cells.end r.cells.left) ≡ [] = ap (cell_run r.lane) front ∙ run_stop (λ c. c.lane) r.lane c cs (λ f. true≢false (sym (eq-eqb c.lane r.lane f) ∙ e)) in
             absurd (some (omega (arith, counted, ap length run)))
 
 -- ---- the pair of a lane
@@ -125,13 +123,13 @@ module _ (h : Header) (k : ℕ) where
     abbrev Counts : SeamCount → Type 0
     Counts r = r ≡ count_of h (seam_of h k (run_cells s a) (run_cells s b))
 
-    pub no_first : a.rest ≡ a.left → {r : SeamCount} → r ≡ none → Counts r
+    pub no_first : a.rest.left ≡ a.cells.left → {r : SeamCount} → r ≡ none → Counts r
     no_first e f = f ∙ none_is ∙ ap (count_of h) (sym (rw (run_empty p e) (none_first (run_cells s b))))
 
-    pub no_second : b.rest ≡ b.left → {r : SeamCount} → r ≡ none → Counts r
+    pub no_second : b.rest.left ≡ b.cells.left → {r : SeamCount} → r ≡ none → Counts r
     no_second e f = f ∙ none_is ∙ ap (count_of h) (sym (rw (run_empty q e) (none_second (run_cells s a))))
 
-    pub lane_pair : (a.rest ≡ a.left → ⊥) → (b.rest ≡ b.left → ⊥) → {c d : Cell} → c ≡ cell_at s (a.end - 6 * (a.rest + 1)) → d ≡ cell_at s (b.end - 6 * b.left)
+    pub lane_pair : (a.rest.left ≡ a.cells.left → ⊥) → (b.rest.left ≡ b.cells.left → ⊥) → {c d : Cell} → c ≡ cell_at s (a.cells.end - 6 * (a.rest.left + 1)) → d ≡ cell_at s (b.cells.end - 6 * b.cells.left)
         → {r : SeamCount} → r ≡ count_of h (pair_at h k c d) → Counts r
     lane_pair x y {c} {d} e f g =
         g ∙ ap (count_of h) (sym (pair_is (run_cells s a) (run_cells s b) c d (omega (arith, counted p, p.fewer)) (omega (arith, counted q, q.fewer)) (last_is p x d ∙ sym e) (first_is q y c ∙ sym f)))
@@ -144,57 +142,53 @@ ahead-some l (c ∷ cs) e b = omega (arith, ap length (run_go (λ c. c.lane) l c
 
 -- ---- all lanes
 
--- so many cells are left of each take, and so many pairs are counted
-pub record Counting (s : List ℕ) (h : Header) (beats : ℕ) (first second : Contents) (left over pairs alone : ℕ) : Type 0 where
-  pub left_few : left ≤ first.cells
-  pub over_few : over ≤ second.cells
+-- these cells are left of each take, and so many pairs are counted
+pub record Counting (s : List ℕ) (h : Header) (beats : ℕ) (first second : Contents) (left over : Last 6) (pairs alone : ℕ) : Type 0 where
+  pub left_in : left.end ≤ length s
+  pub over_in : over.end ≤ length s
   pub lane : ℕ
-  pub left-from : From (λ c. c.lane) lane (last_cells s first.end left)
-  pub over_from : From (λ c. c.lane) lane (last_cells s second.end over)
-  pub pairs_are : pairs + length (seams h beats (last_cells s first.end left) (last_cells s second.end over))
-      ≡ length (seams h beats (last_cells s first.end first.cells) (last_cells s second.end second.cells))
-  pub alone_are : alone + lone h (seams h beats (last_cells s first.end left) (last_cells s second.end over))
-      ≡ lone h (seams h beats (last_cells s first.end first.cells) (last_cells s second.end second.cells))
+  pub left-from : From (λ c. c.lane) lane (last_cells s left.end left.left)
+  pub over_from : From (λ c. c.lane) lane (last_cells s over.end over.left)
+  pub pairs_are : pairs + length (seams h beats (last_cells s left.end left.left) (last_cells s over.end over.left))
+      ≡ length (seams h beats (last_cells s first.cells.end first.cells.left) (last_cells s second.cells.end second.cells.left))
+  pub alone_are : alone + lone h (seams h beats (last_cells s left.end left.left) (last_cells s over.end over.left))
+      ≡ lone h (seams h beats (last_cells s first.cells.end first.cells.left) (last_cells s second.cells.end second.cells.left))
 
 module _ {s : List ℕ} {h : Header} {beats : ℕ} {first second : Contents} (a : SeamsAsks s h beats first second) where
   abbrev all : List (Cell × Cell)
-  all = seams h beats (last_cells s first.end first.cells) (last_cells s second.end second.cells)
+  all = seams h beats (last_cells s first.cells.end first.cells.left) (last_cells s second.cells.end second.cells.left)
 
-  pub counting_start : Counting s h beats first second first.cells second.cells 0 0
-  counting_start =
-      record { left_few = omega arith; over_few = omega arith; lane = 0; left-from = a.first-from; over_from = a.second_from; pairs_are = omega arith; alone_are = omega arith }
-
-  module _ {left over pairs alone : ℕ} (l : Counting s h beats first second left over pairs alone) where
+  module _ {left over : Last 6} {pairs alone : ℕ} (l : Counting s h beats first second left over pairs alone) where
     abbrev cs : List Cell
-    cs = last_cells s first.end left
+    cs = last_cells s left.end left.left
 
     abbrev ds : List Cell
-    ds = last_cells s second.end over
+    ds = last_cells s over.end over.left
 
-    pub left_asks : (6 * left ≤ first.end) × (first.end ≤ length s)
-    left_asks = (omega (arith, a.first_in, l.left_few), a.first-inside)
-
-    pub over_asks : (6 * over ≤ second.end) × (second.end ≤ length s)
-    over_asks = (omega (arith, a.second_in, l.over_few), a.second_inside)
-
-    pub seams_counted : left ≤ 0 → ◌≡◌ {A = SeamCount} (record { pairs = pairs; alone = alone }) (count_of h all)
+    pub seams_counted : left.left ≤ 0 → ◌≡◌ {A = SeamCount} (record { pairs = pairs; alone = alone }) (count_of h all)
     unfolding count_of lone
     seams_counted z =
-        let none_left : left ≡ 0 = omega arith in
-        let no : cs ≡ [] = ap (last_cells s first.end) none_left ∙ no_cells s first.end in
+        let none_left : left.left ≡ 0 = omega arith in
+        let no : cs ≡ [] = ap (last_cells s left.end) none_left ∙ no_cells s left.end in
         let over-now : seams h beats cs ds ≡ [] = rw no (seams_over h beats ds) in
         let p : pairs ≡ length all = omega (arith, l.pairs_are, ap length over-now) in
         let q : alone ≡ lone h all = omega (arith, l.alone_are, ap (lone h) over-now) in
         rw (p, q)
 
-    module _ (more : 0 < left) {x y lane : ℕ} (e : x ≡ lane_ahead (λ c. c.lane) cs) (f : y ≡ lane_ahead (λ c. c.lane) ds) (least : lane ≡ min x y) where
-      front : cs ≡ cell_at s (first.end - 6 * left) ∷ last_cells s first.end (left - 1)
-      front = last_cells_lem s first.end left more left_asks.0
+    module _ (more : 0 < left.left) {x y lane : ℕ} (x_is : x ≡ lane_of_last 6 s left.end left.left) (y_is : y ≡ lane_of_last 6 s over.end over.left) (least : lane ≡ min x y) where
+      e : x ≡ lane_ahead (λ c. c.lane) cs
+      e = x_is ∙ cell_lane s left.end left.left left.fits
+
+      f : y ≡ lane_ahead (λ c. c.lane) ds
+      f = y_is ∙ cell_lane s over.end over.left over.fits
+
+      front : cs ≡ cell_at s (left.end - 6 * left.left) ∷ last_cells s left.end (left.left - 1)
+      front = last_cells_lem s left.end left.left more left.fits
 
       lane_below : lane < 2048
       lane_below =
-          let c = cell_at s (first.end - 6 * left) in
-          let is : lane_ahead (λ c. c.lane) cs ≡ c.lane = ap (lane_ahead (λ c. c.lane)) front ∙ ahead-first (λ c. c.lane) 0 c (last_cells s first.end (left - 1)) in
+          let c = cell_at s (left.end - 6 * left.left) in
+          let is : lane_ahead (λ c. c.lane) cs ≡ c.lane = ap (lane_ahead (λ c. c.lane)) front ∙ ahead-first (λ c. c.lane) 0 c (last_cells s left.end (left.left - 1)) in
           let low : c.lane < 2048 = (rw front at l.left-from.below).0 in
           omega (arith, e, is, least)
 
@@ -204,7 +198,7 @@ module _ {s : List ℕ} {h : Header} {beats : ℕ} {first second : Contents} (a 
       second_here : From (λ c. c.lane) lane ds
       second_here = from-ahead (λ c. c.lane) l.lane lane ds l.over_from (omega (arith, f, least))
 
-      module _ {p q : CellRun} (g : RunAt s lane first.end left p) (i : RunAt s lane second.end over q) where
+      module _ {p q : CellRun} (g : RunAt s lane left p) (i : RunAt s lane over q) where
         first-cells : run_cells s p ≡ cell_run lane cs
         unfolding run_cells
         first-cells = rw (g.lane_is, g.end_is, g.left_is)
@@ -213,17 +207,17 @@ module _ {s : List ℕ} {h : Header} {beats : ℕ} {first second : Contents} (a 
         unfolding run_cells
         second_cells = rw (i.lane_is, i.end_is, i.left_is)
 
-        first_rest : last_cells s first.end p.rest ≡ cell_rest lane cs
-        first_rest = rw (g.lane_is, g.end_is, g.left_is) at g.ahead.rest_is
+        first_rest : last_cells s p.rest.end p.rest.left ≡ cell_rest lane cs
+        first_rest = ap (λ (e : ℕ). last_cells s e p.rest.left) g.ahead.end_is ∙ g.ahead.rest_is ∙ rw (g.lane_is, g.end_is, g.left_is)
 
-        second_rest : last_cells s second.end q.rest ≡ cell_rest lane ds
-        second_rest = rw (i.lane_is, i.end_is, i.left_is) at i.ahead.rest_is
+        second_rest : last_cells s q.rest.end q.rest.left ≡ cell_rest lane ds
+        second_rest = ap (λ (e : ℕ). last_cells s e q.rest.left) i.ahead.end_is ∙ i.ahead.rest_is ∙ rw (i.lane_is, i.end_is, i.left_is)
 
         abbrev here : List (Cell × Cell)
         here = seam_of h beats (run_cells s p) (run_cells s q)
 
         abbrev behind : List (Cell × Cell)
-        behind = seams h beats (last_cells s first.end p.rest) (last_cells s second.end q.rest)
+        behind = seams h beats (last_cells s p.rest.end p.rest.left) (last_cells s q.rest.end q.rest.left)
 
         step : seams h beats cs ds ≡ here ++ behind
         step = seams_step h beats lane cs ds lane_below first-here second_here ∙ rw (← first-cells, ← second_cells, ← first_rest, ← second_rest)
@@ -235,10 +229,10 @@ module _ {s : List ℕ} {h : Header} {beats : ℕ} {first second : Contents} (a 
         alone_step = omega (arith, l.alone_are, ap (lone h) step, lone-append h beats here behind)
 
         -- a cell of one or the other is passed
-        pub fewer_cells : p.rest + q.rest < left + over
+        pub fewer_cells : p.rest.left + q.rest.left < left.left + over.left
         fewer_cells = go (leb x y) refl
           where
-            go : (b : Bool) → leb x y ≡ b → p.rest + q.rest < left + over
+            go : (b : Bool) → leb x y ≡ b → p.rest.left + q.rest.left < left.left + over.left
             go true t =
                 let own : lane_ahead (λ c. c.lane) cs ≡ lane = omega (arith, e, least, leb-true x y t) in
                 omega (arith, ahead-some lane cs own lane_below, ap length first-cells, counted g.ahead, g.left_is, i.ahead.fewer, i.left_is)
@@ -264,8 +258,8 @@ module _ {s : List ℕ} {h : Header} {beats : ℕ} {first second : Contents} (a 
           pub counting_lane : Counting s h beats first second p.rest q.rest (pairs + n.pairs) (alone + n.alone)
           counting_lane =
               record {
-                left_few = omega (arith, l.left_few, g.ahead.fewer, g.left_is);
-                over_few = omega (arith, l.over_few, i.ahead.fewer, i.left_is);
+                left_in = omega (arith, l.left_in, g.ahead.end_is, g.end_is);
+                over_in = omega (arith, l.over_in, i.ahead.end_is, i.end_is);
                 lane = suc lane;
                 left-from = rw first_rest (rest_from (λ c. c.lane) lane cs first-here);
                 over_from = rw second_rest (rest_from (λ c. c.lane) lane ds second_here);

@@ -47,23 +47,23 @@ module _ {s : List ℕ} {h : Header} {i j k : ℕ} (a : JoinAsks s h i j k) wher
 
   module _ {first second : Contents} (r : Read (first_read a) first) (q : Read (second_read a) second) where
     -- how many notes and cells they have
-    first-notes : length (notes_of h t) ≡ first.notes
+    first-notes : length (notes_of h t) ≡ first.notes.left
     unfolding last_notes
-    first-notes = ap length (sym r.notes_are) ∙ length_read first.notes _
+    first-notes = ap length (sym r.notes_are) ∙ length_read first.notes.left _
 
-    second_notes : length (notes_of h u) ≡ second.notes
+    second_notes : length (notes_of h u) ≡ second.notes.left
     unfolding last_notes
-    second_notes = ap length (sym q.notes_are) ∙ length_read second.notes _
+    second_notes = ap length (sym q.notes_are) ∙ length_read second.notes.left _
 
-    first-cells : length t.cells ≡ first.cells
+    first-cells : length t.cells ≡ first.cells.left
     unfolding last_cells
-    first-cells = ap length (sym r.cells_are) ∙ length-cells first.cells _
+    first-cells = ap length (sym r.cells_are) ∙ length-cells first.cells.left _
 
-    second_cells : length u.cells ≡ second.cells
+    second_cells : length u.cells ≡ second.cells.left
     unfolding last_cells
-    second_cells = ap length (sym q.cells_are) ∙ length-cells second.cells _
+    second_cells = ap length (sym q.cells_are) ∙ length-cells second.cells.left _
 
-    join_has : length both.cells ≡ first.cells + second.cells
+    join_has : length both.cells ≡ first.cells.left + second.cells.left
     join_has = omega (arith, length-join-cells h.delta t u (solid_first a) (solid_second a), first-cells, second_cells)
 
     counts_asks : (more fewer : ℕ) → more ≤ max_words → fewer ≤ 2 * max_words → CountsAsks h first second more fewer
@@ -76,10 +76,10 @@ module _ {s : List ℕ} {h : Header} {i j k : ℕ} (a : JoinAsks s h i j k) wher
     }
 
     -- with a note more for each pair that there can be
-    pub most_asks : {m : ℕ} → m ≡ min lane_count (min first.cells second.cells) → CountsAsks h first second m 0
+    pub most_asks : {m : ℕ} → m ≡ min lane_count (min first.cells.left second.cells.left) → CountsAsks h first second m 0
     most_asks e = counts_asks _ 0 (omega (arith, e, r.used_is, (range a).small)) (omega arith)
 
-    pub fits-at_once : {m : ℕ} → m ≡ min lane_count (min first.cells second.cells) → {b : Bool} → b ≡ leb (counted_words first second m) (h.words + 4 * 0) → b ≡ true → true ≡ fits h both
+    pub fits-at_once : {m : ℕ} → m ≡ min lane_count (min first.cells.left second.cells.left) → {b : Bool} → b ≡ leb (counted_words first second m) (h.words + 4 * 0) → b ≡ true → true ≡ fits h both
     unfolding fits counted_words
     fits-at_once {m} e f g =
         let yes : counted_words first second m ≤ h.words + 4 * 0 = leb-true _ _ (sym f ∙ g) in
@@ -88,7 +88,7 @@ module _ {s : List ℕ} {h : Header} {i j k : ℕ} (a : JoinAsks s h i j k) wher
 
     -- by the pairs that are counted
     abbrev pairs : List (Cell × Cell)
-    pairs = seams h t.beats (last_cells s first.end first.cells) (last_cells s second.end second.cells)
+    pairs = seams h t.beats (last_cells s first.cells.end first.cells.left) (last_cells s second.cells.end second.cells.left)
 
     pairs_are : pairs ≡ seams h t.beats t.cells u.cells
     pairs_are = rw (r.cells_are, q.cells_are)
@@ -105,16 +105,14 @@ module _ {s : List ℕ} {h : Header} {i j k : ℕ} (a : JoinAsks s h i j k) wher
           let o = placed (second_read a) q s refl (shelf_at h k) 0 (omega arith) (omega arith) in
           let f = join_four h (range a).some-ticks (range a).kept-within t u (solid_first a) (solid_second a) in
           record {
-            first_in = omega (arith, p.cells_in);
             first-inside = p.inside;
-            second_in = omega (arith, o.cells_in);
             second_inside = o.inside;
             first-from = rw r.cells_are f.first-cells;
             second_from = rw q.cells_are f.second_cells;
             few = rw is few;
           }
 
-      module _ {n : SeamCount} (e : n ≡ count_of h (seams h beats (last_cells s first.end first.cells) (last_cells s second.end second.cells))) where
+      module _ {n : SeamCount} (e : n ≡ count_of h (seams h beats (last_cells s first.cells.end first.cells.left) (last_cells s second.cells.end second.cells.left))) where
         pairs_is : n.pairs ≡ length pairs
         unfolding count_of
         pairs_is = rw (e, is)

@@ -81,7 +81,6 @@ module _ {s : List ℕ} {h : Header} {i j k : ℕ} (a : JoinAsks s h i j k) wher
             four = lanes_ordered;
             joinable =
                 record {
-                  line_is = refl;
                   first-placed = placed (first_read a) r s refl to _ low within;
                   second_placed = placed (second_read a) q s refl to _ low within;
                   first_shiftable = rw r.notes_are (shiftable t (solid_first a) first_few first_few);

@@ -4,11 +4,11 @@ use mathlib.Core.Bool.{Bool, true, false, cond, true≢false}
 use mathlib.Core.List.{List, [], ◌∷◌, ◌++◌, map}
 use Prim.Native.Nat.{ℕ, zero, suc, ◌+◌, ◌-◌, ◌*◌, ◌≤◌, ◌<◌, min}
 use native.Mathlib.Omega.{arith}
-use borrow.Author.Tests.{eq-eqb, eqb-true, ne_eqb, leb-true, leb-false}
+use borrow.Author.Tests.{eq-eqb, eqb-true, eqb-false, ne_eqb, leb-true, leb-false}
 use lib.Dec.{leb, eqb}
 use lib.ListN.{length, length-append}
 use Rattle.words.specs.Splice.{splice}
-use Rattle.words.specs.Writes.{Writes, writes_start, writes-run, writes-done, writes_same}
+use Rattle.words.specs.Writes.{Writes, writes-run, writes-done, writes_same}
 use Rattle.words.specs.Parts.{Same}
 use Rattle.model.specs.Binding.{bound, stands_alone}
 use Rattle.model.specs.Lists.{gather}
@@ -23,9 +23,11 @@ use Rattle.laws.specs.SeamWalk.{last_or, note_later}
 use Rattle.laws.specs.Sessions.{length-note_words}
 use Rattle.session.specs.Reading.{note_at, cell_at, last_notes, last_cells}
 use Rattle.session.proofs.Lasts.{no_notes, no_cells, last_notes_lem, last_cells_lem}
+use Rattle.std.specs.Prelude.{Some}
 use Rattle.cuts.specs.declared.halves.Contents.{Contents}
 use Rattle.cuts.specs.declared.seam.Seam.{Seam}
-use Rattle.cuts.specs.Seams.{Shiftable, later_run, NoteRunAsks, NoteRunPut, RunRead, OverAsks, lane_notes, lane_by, over_seam, lane_of}
+use Rattle.cuts.specs.Lasts.{lane_of_last}
+use Rattle.cuts.specs.Seams.{Shiftable, later_run, NoteRunAsks, NoteRunPut, RunRead, OverAsks, lane_by, over_seam, lane_of}
 use Rattle.cuts.proofs.Passes.{notes_agree}
 
 -- ---- the lane in front
@@ -93,30 +95,24 @@ pub record Running (s₀ s : List ℕ) (to lane ticks end left₀ at left : ℕ)
   pub writes : Writes s₀ s to at (gather note_words (later_run lane ticks s₀ end left₀)) (gather note_words (later_run lane ticks s₀ end left))
   pub rest : note_rest lane (last_notes s₀ end left) ≡ note_rest lane (last_notes s₀ end left₀)
 
-module _ {s₀ : List ℕ} {to lane ticks end left₀ : ℕ} (a : NoteRunAsks s₀ to lane ticks end left₀) where
-  pub running_start : Running s₀ s₀ to lane ticks end left₀ to left₀
-  running_start = record { few = omega arith; place = refl; writes = writes_start s₀ to _; rest = refl }
-
+module _ {s₀ : List ℕ} {to lane ticks end left₀ : ℕ} (fits : 4 * left₀ ≤ end) (a : NoteRunAsks s₀ to lane ticks end left₀) where
   module _ {s : List ℕ} {at left : ℕ} (l : Running s₀ s to lane ticks end left₀ at left) where
     sized : length (gather note_words (later_run lane ticks s₀ end left₀)) ≡ 4 * length (later_run lane ticks s₀ end left₀)
     sized = length-note_words (later_run lane ticks s₀ end left₀)
 
     were : (k : ℕ) → k ≤ left₀ → last_notes s end k ≡ last_notes s₀ end k
-    were = notes_were a.notes_in_lem (writes_same l.writes (rw sized a.apart))
+    were = notes_were fits (writes_same l.writes (rw sized a.apart))
 
     module _ (more : 0 < left) where
       pub run-place : 4 * left ≤ end
-      run-place = omega (arith, a.notes_in_lem, l.few)
-
-      pub run_inside : end - 4 * left + 4 ≤ length s
-      run_inside = omega (arith, run-place, a.inside, l.writes.long)
+      run-place = omega (arith, fits, l.few)
 
       module _ {n : Note} (is : n ≡ note_at s (end - 4 * left)) where
         first : last_notes s₀ end left ≡ n ∷ last_notes s₀ end (left - 1)
         first = sym (were left l.few) ∙ last_notes_lem s end left more run-place ∙ rw (← is, were (left - 1) (omega (arith, l.few)))
 
         pub run_shiftable : Shiftable ticks n
-        run_shiftable = (rw first at (all-last_notes (Shiftable ticks) s₀ end left₀ left l.few a.notes_in_lem a.shiftable)).0
+        run_shiftable = (rw first at (all-last_notes (Shiftable ticks) s₀ end left₀ left l.few fits a.shiftable)).0
 
         -- a note of the lane
         module _ (same : n.lane ≡ lane) where
@@ -156,13 +152,14 @@ module _ {s₀ : List ℕ} {to lane ticks end left₀ : ℕ} (a : NoteRunAsks s�
             let w = rw none at l.writes in
             record { words = writes-done w; rest = all ∙ l.rest; count = omega (arith, w.place, sized, l.place) }
 
-    pub run_end : left ≤ 0 → NoteRunPut s₀ to lane ticks end left₀ s left
-    run_end over =
+    pub run_end : {r : ℕ} → r ≡ 0 → left ≤ 0 → NoteRunPut s₀ to lane ticks end left₀ s r
+    run_end {r} none_left over =
         let z : left ≡ 0 = omega arith in
+        let is : r ≡ left = omega arith in
         let no : last_notes s₀ end left ≡ [] = ap (last_notes s₀ end) z ∙ no_notes s₀ end in
         let none : later_run lane ticks s₀ end left ≡ [] = ap (λ (ns : List Note). map (note_later ticks) (note_run lane ns)) no ∙ ap (map (note_later ticks)) (run_none (λ n. n.lane) lane) in
         let w = rw none at l.writes in
-        record { words = writes-done w; rest = no ∙ sym (rest-none (λ n. n.lane) lane) ∙ ap (note_rest lane) (sym no) ∙ l.rest; count = omega (arith, w.place, sized, l.place) }
+        rw is (record { words = writes-done w; rest = no ∙ sym (rest-none (λ n. n.lane) lane) ∙ ap (note_rest lane) (sym no) ∙ l.rest; count = omega (arith, w.place, sized, l.place) })
 
 -- ---- the cells of a lane
 
@@ -177,23 +174,23 @@ module _ (s : List ℕ) (end lane : ℕ) where
     pub cells_stop : (c.lane ≡ lane → ⊥) → last_cells s end k ≡ cell_rest lane (last_cells s end k)
     cells_stop d = cells-first ∙ sym (rest_stop (λ c. c.lane) lane c (last_cells s end (k - 1)) d) ∙ ap (cell_rest lane) (sym cells-first)
 
-    pub cell-ahead : c.lane ≡ lane_ahead (λ c. c.lane) (last_cells s end k)
+    cell-ahead : c.lane ≡ lane_ahead (λ c. c.lane) (last_cells s end k)
     cell-ahead = sym (ahead-first (λ c. c.lane) lane c (last_cells s end (k - 1))) ∙ ap (lane_ahead (λ c. c.lane)) (sym cells-first)
 
-  pub cells_end : (k : ℕ) → k ≤ 0 → last_cells s end k ≡ cell_rest lane (last_cells s end k)
-  cells_end k over =
+  pub cells_end : (k : ℕ) {r : ℕ} → r ≡ 0 → k ≤ 0 → last_cells s end r ≡ cell_rest lane (last_cells s end k)
+  cells_end k {r} none_left over =
       let z : k ≡ 0 = omega arith in
       let no : last_cells s end k ≡ [] = ap (last_cells s end) z ∙ no_cells s end in
-      no ∙ sym (rest-none (λ c. c.lane) lane) ∙ ap (cell_rest lane) (sym no)
+      ap (last_cells s end) none_left ∙ no_cells s end ∙ sym (rest-none (λ c. c.lane) lane) ∙ ap (cell_rest lane) (sym no)
 
 module _ (s : List ℕ) (end k : ℕ) where
-  pub no_cell-ahead : k ≡ 0 → 2048 ≡ lane_ahead (λ c. c.lane) (last_cells s end k)
+  no_cell-ahead : k ≡ 0 → 2048 ≡ lane_ahead (λ c. c.lane) (last_cells s end k)
   no_cell-ahead z = sym (ahead_none (λ c. c.lane) 0) ∙ ap (lane_ahead (λ c. c.lane)) (sym (ap (last_cells s end) z ∙ no_cells s end))
 
-  pub no_note-ahead : k ≡ 0 → 2048 ≡ lane_ahead (λ n. n.lane) (last_notes s end k)
+  no_note-ahead : k ≡ 0 → 2048 ≡ lane_ahead (λ n. n.lane) (last_notes s end k)
   no_note-ahead z = sym (ahead_none (λ n. n.lane) 0) ∙ ap (lane_ahead (λ n. n.lane)) (sym (ap (last_notes s end) z ∙ no_notes s end))
 
-  pub note-ahead : 0 < k → 4 * k ≤ end → {n : Note} → n ≡ note_at s (end - 4 * k) → n.lane ≡ lane_ahead (λ n. n.lane) (last_notes s end k)
+  note-ahead : 0 < k → 4 * k ≤ end → {n : Note} → n ≡ note_at s (end - 4 * k) → n.lane ≡ lane_ahead (λ n. n.lane) (last_notes s end k)
   note-ahead more fits {n} is =
       let first : last_notes s end k ≡ n ∷ last_notes s end (k - 1) = last_notes_lem s end k more fits ∙ rw (← is) in
       sym (ahead-first (λ n. n.lane) 0 n (last_notes s end (k - 1))) ∙ ap (lane_ahead (λ n. n.lane)) (sym first)
@@ -283,22 +280,11 @@ pub last-cell : (s : List ℕ) (lane end : ℕ) (d : Cell) (left r : ℕ) → 6 
 last-cell s lane end d left r fits =
     last_of_run (λ c. c.lane) lane (last_cells s end) (λ k. cell_at s (end - 6 * k)) left (λ k more few. last_cells_lem s end k more (omega arith)) d left r (omega arith)
 
-module _ {s : List ℕ} {end left r : ℕ} (h : Header) (line : ℕ) (c : Cell) (a : RunRead s c.lane end left r) where
-  pub up_none : r ≡ left → ending_at line c ≡ up_to h line c (note_run c.lane (last_notes s end left))
-  up_none e =
-      let none : note_run c.lane (last_notes s end left) ≡ [] = nothing (note_run c.lane (last_notes s end left)) (omega (arith, a.count)) in
-      rw none (either (stands_alone h c) (ending_at line c))
-
+module _ {s : List ℕ} {end left r : ℕ} (h : Header) (line : ℕ) (c : Cell) (fits : 4 * left ≤ end) (a : RunRead s c.lane end left r) where
   module _ {b : Bool} (is : b ≡ stands_alone h c) where
-    pub up_short : b ≡ false → ending_at line c ≡ up_to h line c (note_run c.lane (last_notes s end left))
-    up_short e = rw (sym is ∙ e)
-
     module _ (d : r ≡ left → ⊥) where
-      pub up_inside : (4 * (r + 1) ≤ end) × (end - 4 * (r + 1) + 4 ≤ length s)
-      up_inside = (omega (arith, a.count, a.notes_in_lem), omega (arith, a.count, a.notes_in_lem, a.inside))
-
       pub up_last : b ≡ true → {n : Note} → n ≡ note_at s (end - 4 * (r + 1)) → n ≡ up_to h line c (note_run c.lane (last_notes s end left))
-      up_last e f = rw (sym is ∙ e) (f ∙ sym (last-note s c.lane end (ending_at line c) left r a.notes_in_lem a.count (omega (arith, a.count))))
+      up_last e f = rw (sym is ∙ e) (f ∙ sym (last-note s c.lane end (ending_at line c) left r fits a.count (omega (arith, a.count))))
 
 module _ (s : List ℕ) (end left : ℕ) (h : Header) (d : Cell) where
   abbrev ahead : List Note
@@ -318,44 +304,55 @@ module _ (s : List ℕ) (end left : ℕ) (h : Header) (d : Cell) where
     on_other o = none_on (ap (note_run d.lane) on_first ∙ run_stop (λ n. n.lane) d.lane n (last_notes s end (left - 1)) o)
 
     module _ {b : Bool} (alone : b ≡ stands_alone h d) where
-      pub on_short : b ≡ false → starting_at0 d ≡ from_on h d ahead
-      on_short e = rw (sym alone ∙ e)
-
       pub on_note : b ≡ true → n.lane ≡ d.lane → n ≡ from_on h d ahead
       on_note e o =
           let run : ahead ≡ n ∷ note_run d.lane (last_notes s end (left - 1)) = ap (note_run d.lane) on_first ∙ run_go (λ n. n.lane) d.lane n (last_notes s end (left - 1)) o in
           rw (sym alone ∙ e, run)
 
--- a cell that began before the first take begins here at its first tick
-pub ending_low : (lane line before velocity : ℕ) → line < before
-    → ◌≡◌ {A = Note} (record { lane = lane; start = 0; end = line; velocity = velocity }) (record { lane = lane; start = line - before; end = line; velocity = velocity })
-ending_low lane line before velocity less = let z : line - before ≡ 0 = omega arith in rw z
-
 -- ---- the seam
 
-module _ {s : List ℕ} {h : Header} {line : ℕ} {c d : Cell} {first : Contents} {rest : ℕ} {second : Contents} (a : OverAsks s h line c d first rest second) where
-  pub over_end : {m : Note} → m ≡ from_on h d (lane_notes d.lane s second) → m.end + line ≤ 4294967295
-  over_end e = rw e a.end_word
+module _ {s : List ℕ} {h : Header} {line : ℕ} {c d : Cell} {end left rest other count : ℕ} (a : OverAsks s h line c d end left rest other count) where
+  abbrev ms : List Note
+  ms = note_run c.lane (last_notes s end left)
 
-  pub over_is : {n m : Note} {b g : Bool} → n ≡ up_to h line c (lane_notes c.lane s first) → m ≡ from_on h d (lane_notes d.lane s second)
-      → b ≡ stands_alone h c → g ≡ stands_alone h d
-      → ◌≡◌ {A = Seam} (record { over = true; held = b; skipped = g; note = record { lane = n.lane; start = n.start; end = m.end + line; velocity = n.velocity } })
-      (over_seam h line c d (lane_notes c.lane s first) (lane_notes d.lane s second))
+  abbrev ns : List Note
+  ns = note_run d.lane (last_notes s other count)
+
+  pub over_is : {n m : Note} {b g : Bool} → n ≡ up_to h line c ms → m ≡ from_on h d ns → b ≡ stands_alone h c → g ≡ stands_alone h d
+      → ◌≡◌ {A = Seam} (record { held = b; skipped = g; note = record { lane = n.lane; start = n.start; end = m.end + line; velocity = n.velocity } })
+      (over_seam h line c d ms ns)
   over_is e f x y = rw (e, f, x, y)
 
 -- the lane's notes where a note goes over the line
-pub over_lane : (h : Header) (line : ℕ) (c d : Cell) (ms ns : List Note) → join_over h line c d ms ns ≡ lane_by (over_seam h line c d ms ns) line ms ns
+pub over_lane : (h : Header) (line : ℕ) (c d : Cell) (xs ys : List Note) → join_over h line c d xs ys ≡ lane_by (Some (over_seam h line c d xs ys)) line xs ys
 unfolding join_over lane_by
-over_lane h line c d ms ns = refl
+over_lane h line c d xs ys = refl
 
 -- ---- the lane that is next
 
-pub lane_is : (s : List ℕ) (from : Contents) {a b r : ℕ} → a ≡ lane_ahead (λ n. n.lane) (last_notes s from.middle from.notes)
-    → b ≡ lane_ahead (λ c. c.lane) (last_cells s from.end from.cells) → r ≡ min a b → r ≡ lane_of s from
+note_lane : (s : List ℕ) (end k : ℕ) → 4 * k ≤ end → lane_of_last 4 s end k ≡ lane_ahead (λ n. n.lane) (last_notes s end k)
+unfolding lane_of_last note_at
+note_lane s end k fits = go (eqb k 0) refl
+  where
+    go : (b : Bool) → eqb k 0 ≡ b → cond b 2048 (note_at s (end - 4 * k)).lane ≡ lane_ahead (λ n. n.lane) (last_notes s end k)
+    go true e = no_note-ahead s end k (eqb-true k 0 e)
+    go false e = note-ahead s end k (omega (arith, eqb-false k 0 e)) fits refl
+
+pub cell_lane : (s : List ℕ) (end k : ℕ) → 6 * k ≤ end → lane_of_last 6 s end k ≡ lane_ahead (λ c. c.lane) (last_cells s end k)
+unfolding lane_of_last cell_at
+cell_lane s end k fits = go (eqb k 0) refl
+  where
+    go : (b : Bool) → eqb k 0 ≡ b → cond b 2048 (cell_at s (end - 6 * k)).lane ≡ lane_ahead (λ c. c.lane) (last_cells s end k)
+    go true e = no_cell-ahead s end k (eqb-true k 0 e)
+    go false e = cell-ahead s end 0 k (omega (arith, eqb-false k 0 e)) fits refl
+
+pub lane_is : (s : List ℕ) (from : Contents) {a b r : ℕ} → a ≡ lane_of_last 4 s from.notes.end from.notes.left → b ≡ lane_of_last 6 s from.cells.end from.cells.left
+    → r ≡ min a b → r ≡ lane_of s from
 unfolding lane_of
-lane_is s from e f g = g ∙ rw (e, f)
+lane_is s from e f g =
+    g ∙ rw (e ∙ note_lane s from.notes.end from.notes.left from.notes.fits, f ∙ cell_lane s from.cells.end from.cells.left from.cells.fits)
 
 pub least_is : (s : List ℕ) (first second : Contents) {a b r : ℕ} → a ≡ lane_of s first → b ≡ lane_of s second → r ≡ min a b
-    → r ≡ least_lane (last_notes s first.middle first.notes) (last_cells s first.end first.cells) (last_notes s second.middle second.notes) (last_cells s second.end second.cells)
+    → r ≡ least_lane (last_notes s first.notes.end first.notes.left) (last_cells s first.cells.end first.cells.left) (last_notes s second.notes.end second.notes.left) (last_cells s second.cells.end second.cells.left)
 unfolding lane_of least_lane
 least_is s first second e f g = g ∙ rw (e, f)

@@ -22,9 +22,9 @@ use Rattle.cuts.specs.Joined.{Movable, JoinedAsks, JoinAsks, cells_joined, later
 use Rattle.cuts.proofs.HalfWords.{Read, placed}
 
 -- the last cells of what is placed are apart from what is written
-cells-apart : {s : List ℕ} {from : Contents} {to size : ℕ} → Placed s from to size → Apart (from.end - 6 * from.cells) (6 * from.cells) to size
+cells-apart : {s : List ℕ} {from : Contents} {to size : ℕ} → Placed s from to size → Apart (from.cells.end - 6 * from.cells.left) (6 * from.cells.left) to size
 cells-apart {from = from} p =
-    apart_swap (apart-within (from.end - 6 * from.cells) (6 * from.cells) (apart_swap p.apart) (omega (arith, p.cells_in)) (omega (arith, p.cells_in)))
+    apart_swap (apart-within (from.cells.end - 6 * from.cells.left) (6 * from.cells.left) (apart_swap p.apart) (omega (arith, p.cells_in)) (omega (arith, p.cells_in)))
 
 module _ {s : List ℕ} {h : Header} {i j k : ℕ} (a : JoinAsks s h i j k) where
   pub range : InRange h (length s)
@@ -77,14 +77,14 @@ module _ {s : List ℕ} {h : Header} {i j k : ℕ} (a : JoinAsks s h i j k) wher
 
   -- l is the session while the other shelf is written: the cells of both are as they were
   module _ {first second : Contents} (r : Read first_read first) (q : Read second_read second) (l : List ℕ) (long : length l ≡ length s)
-      (e : last_cells l first.end first.cells ≡ t.cells) (f : last_cells l second.end second.cells ≡ u.cells) where
-    pub cells_are_joined : cells_joined t.beats l first second first.cells second.cells ≡ (join_takes h.delta t u).cells
+      (e : last_cells l first.cells.end first.cells.left ≡ t.cells) (f : last_cells l second.cells.end second.cells.left ≡ u.cells) where
+    pub cells_are_joined : cells_joined t.beats l first second first.cells.left second.cells.left ≡ (join_takes h.delta t u).cells
     unfolding cells_joined later_cells
     cells_are_joined = rw (e, f) (sym (join_cells h.delta t u solid_first solid_second))
 
     module _ (to : ℕ) (low : shelf_at h k ≤ to) (high : to + 6 * length (join_takes h.delta t u).cells ≤ shelf_at h k + h.words) where
       abbrev size : ℕ
-      size = 6 * length (cells_joined t.beats l first second first.cells second.cells)
+      size = 6 * length (cells_joined t.beats l first second first.cells.left second.cells.left)
 
       within : to + size ≤ shelf_at h k + h.words
       within = rw cells_are_joined high
@@ -94,12 +94,10 @@ module _ {s : List ℕ} {h : Header} {i j k : ℕ} (a : JoinAsks s h i j k) wher
           let p = placed first_read r l long to size low within in
           let o = placed second_read q l long to size low within in
           record {
-            first_in = omega (arith, p.cells_in);
             first-inside = p.inside;
             first-apart = cells-apart p;
             run =
                 record {
-                  cells_in = omega (arith, o.cells_in);
                   inside = o.inside;
                   movable = rw f second_movable;
                   apart = cells-apart o;
@@ -108,6 +106,6 @@ module _ {s : List ℕ} {h : Header} {i j k : ℕ} (a : JoinAsks s h i j k) wher
           }
 
       -- the joined cells, written
-      pub joined_made : {m : List ℕ} {b : ℕ} → Made l to (cells_joined t.beats l first second first.cells second.cells) m b
+      pub joined_made : {m : List ℕ} {b : ℕ} → Made l to (cells_joined t.beats l first second first.cells.left second.cells.left) m b
           → Made l to (join_takes h.delta t u).cells m b
       joined_made d = rw (← cells_are_joined) d

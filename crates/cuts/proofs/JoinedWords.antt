@@ -6,8 +6,7 @@ use native.Mathlib.Omega.{arith}
 use lib.ListN.{length}
 use Rattle.words.specs.Splice.{splice, length-splice}
 use Rattle.model.specs.Lists.{gather}
-use Rattle.model.specs.Limits.{max_beats}
-use Rattle.model.specs.Takes.{Take, join_takes, note_words, notes_of, words_of, words_used}
+use Rattle.model.specs.Takes.{Take, cell_words, join_takes, note_words, notes_of, words_of}
 use Rattle.model.specs.Questions.{take_at}
 use Rattle.model.specs.Session.{shelf_at}
 use Rattle.model.specs.declared.Header.{Header}
@@ -16,6 +15,7 @@ use Rattle.session.specs.Reading.{last_cells}
 use Rattle.cuts.specs.declared.halves.Contents.{Contents}
 use Rattle.cuts.specs.Making.{Made}
 use Rattle.cuts.specs.Halving.{Noted}
+use Rattle.cuts.specs.BothHalves.{CountsAsks}
 use Rattle.cuts.specs.Joined.{JoinAsks, JoinedAsks, PutAsks, cells_joined}
 use Rattle.cuts.specs.LaneNotes.{JoinNotesAsks, lanes_joined}
 use Rattle.cuts.proofs.HalfWords.{Read, placed}
@@ -23,7 +23,7 @@ use Rattle.session.proofs.Sources.{shelf-inside}
 use Rattle.cuts.proofs.JoinNotes.{join-notes_asks, join_noted}
 use Rattle.cuts.proofs.JoinWords.{first_read, joined_asks, joined_made, range, second_read}
 use Rattle.cuts.proofs.TakeWords as words
-use Rattle.cuts.proofs.TakeWords.{Counted, cells_still, take-room}
+use Rattle.cuts.proofs.TakeWords.{cells_still, counted, take-room}
 
 module _ {s : List ℕ} {h : Header} {i j k : ℕ} (p : PutAsks s h i j k) where
   abbrev a : JoinAsks s h i j k
@@ -41,15 +41,9 @@ module _ {s : List ℕ} {h : Header} {i j k : ℕ} (p : PutAsks s h i j k) where
   room : 3 + 4 * length (notes_of h both) + 6 * length both.cells ≤ h.words
   room = take-room h both p.fit
 
-  pub beats_room : {x y : ℕ} → x ≡ t.beats → y ≡ u.beats → x + y ≤ max_beats
-  beats_room e f = omega (arith, e, f, a.beats_few)
-
   module _ {first second : Contents} (r : Read (first_read a) first) (q : Read (second_read a) second) {at : ℕ} (place : at ≡ shelf_at h k) {x : ℕ} (m : x ≡ t.beats) where
     inside : at + h.words ≤ length s
     inside = omega (arith, place, shelf-inside h k (length s) (range a) a.to_below)
-
-    pub notes-place : at + 3 ≤ length s
-    notes-place = omega (arith, inside, room)
 
     pub notes_asks : JoinNotesAsks s (at + 3) h x first second
     notes_asks = rw m (join-notes_asks a r q (at + 3) (omega (arith, place)) (omega (arith, place, room)))
@@ -64,10 +58,10 @@ module _ {s : List ℕ} {h : Header} {i j k : ℕ} (p : PutAsks s h i j k) where
       high : at + 3 + 4 * length (notes_of h both) ≤ shelf_at h k + h.words
       high = omega (arith, place, room)
 
-      first_still : last_cells s₁ first.end first.cells ≡ t.cells
+      first_still : last_cells s₁ first.cells.end first.cells.left ≡ t.cells
       first_still = cells_still (notes_of h both) (placed (first_read a) r s refl (at + 3) _ (omega (arith, place)) high) notes_put ∙ r.cells_are
 
-      second_still : last_cells s₁ second.end second.cells ≡ u.cells
+      second_still : last_cells s₁ second.cells.end second.cells.left ≡ u.cells
       second_still = cells_still (notes_of h both) (placed (second_read a) q s refl (at + 3) _ (omega (arith, place)) high) notes_put ∙ q.cells_are
 
       low_middle : shelf_at h k ≤ middle
@@ -79,15 +73,20 @@ module _ {s : List ℕ} {h : Header} {i j k : ℕ} (p : PutAsks s h i j k) where
       pub cells_asks : JoinedAsks s₁ middle x first second
       cells_asks = rw m (joined_asks a r q s₁ long first_still second_still middle low_middle high_cells)
 
-      module _ {s₂ : List ℕ} {end : ℕ} (made : Made s₁ middle (cells_joined x s₁ first second first.cells second.cells) s₂ end) where
+      module _ {s₂ : List ℕ} {end : ℕ} (made : Made s₁ middle (cells_joined x s₁ first second first.cells.left second.cells.left) s₂ end) where
         cells-put : Made s₁ middle both.cells s₂ end
         cells-put = joined_made a r q s₁ long first_still second_still middle low_middle high_cells (rw m at made)
 
-        pub counted : Counted h both at middle end
-        counted = words.counted h both (range a).small p.fit at inside notes_put cells-put
-
-        pub frame_asks : (at + h.words ≤ length s₂) × (words_used ((middle - (at + 3)) / 4) ((end - middle) / 6) ≤ h.words)
-        frame_asks = words.frame_asks h both (range a).small p.fit at inside notes_put cells-put
+        pub counts_asks : CountsAsks s₂ at h.words middle end
+        counts_asks =
+            let c = counted h both (range a).small p.fit at inside notes_put cells-put in
+            record {
+              few = (range a).small;
+              notes_low = c.notes_low;
+              cells_low = c.cells_low;
+              high = omega (arith, notes_put.behind, cells-put.behind, room);
+              inside = omega (arith, inside, long, ap length cells-put.words, length-splice s₁ middle (gather cell_words both.cells));
+            }
 
         pub join-put : {y : ℕ} → y ≡ u.beats → {s₃ : List ℕ} → s₃ ≡ framed s₂ at h.words (x + y) ((middle - (at + 3)) / 4) ((end - middle) / 6)
             → s₃ ≡ splice s (shelf_at h k) (words_of h both)

@@ -21,26 +21,27 @@ use Rattle.laws.specs.SeamWalk.{last_or, note_later}
 use Rattle.laws.specs.Sessions.{length-note_words}
 use Rattle.session.specs.Reading.{last_notes, last_cells}
 use Rattle.session.proofs.Lasts.{length_last}
+use Rattle.std.specs.Prelude.{Option, Some, None}
 use Rattle.cuts.specs.declared.halves.Contents.{Contents}
 use Rattle.cuts.specs.declared.seam.Seam.{Seam}
 use Rattle.cuts.specs.Halving.{Noted, Placed}
 use Rattle.cuts.specs.Seams.{lane_by}
-use Rattle.cuts.specs.LaneNotes.{lane_joined, kept_by, seam_end, SeamPut, front_by, back_by}
+use Rattle.cuts.specs.LaneNotes.{lane_joined, kept_by, seam_end, seam_words, SeamPut, front_by, back_by}
 use Rattle.cuts.proofs.Passes.{notes_agree, cells_agree}
 
 -- ---- what is read while other words are written
 
 -- A take's last notes and cells are the same in two lists.
 pub record Still (s t : List ℕ) (from : Contents) : Type 0 where
-  pub notes : (k : ℕ) → k ≤ from.notes → last_notes t from.middle k ≡ last_notes s from.middle k
-  pub cells : (k : ℕ) → k ≤ from.cells → last_cells t from.end k ≡ last_cells s from.end k
+  pub notes : (k : ℕ) → k ≤ from.notes.left → last_notes t from.notes.end k ≡ last_notes s from.notes.end k
+  pub cells : (k : ℕ) → k ≤ from.cells.left → last_cells t from.cells.end k ≡ last_cells s from.cells.end k
 
-pub still_by : {s t : List ℕ} {from : Contents} {to size : ℕ} (p : Placed s from to size) → Same t s p.low (from.end - p.low) → Still s t from
+pub still_by : {s t : List ℕ} {from : Contents} {to size : ℕ} (p : Placed s from to size) → Same t s p.low (from.cells.end - p.low) → Still s t from
 still_by {s} {t} {from} p same = record {
-  notes = λ k less. notes_agree t s from.middle from.middle k (omega (arith, p.notes_in_lem)) (omega (arith, p.notes_in_lem))
-      (λ i pos upto. same.at (from.middle - i) (omega (arith, p.notes_in_lem)) (omega (arith, p.notes_in_lem, p.order)));
-  cells = λ k less. cells_agree t s from.end from.end k (omega (arith, p.cells_in)) (omega (arith, p.cells_in))
-      (λ i pos upto. same.at (from.end - i) (omega (arith, p.cells_in)) (omega (arith, p.cells_in)));
+  notes = λ k less. notes_agree t s from.notes.end from.notes.end k (omega (arith, p.notes_in_lem)) (omega (arith, p.notes_in_lem))
+      (λ i pos upto. same.at (from.notes.end - i) (omega (arith, p.notes_in_lem)) (omega (arith, p.notes_in_lem, p.order)));
+  cells = λ k less. cells_agree t s from.cells.end from.cells.end k (omega (arith, p.cells_in)) (omega (arith, p.cells_in))
+      (λ i pos upto. same.at (from.cells.end - i) (omega (arith, p.cells_in)) (omega (arith, p.cells_in)));
 }
 
 pub still : {s t : List ℕ} {from : Contents} {to size : ℕ} → Placed s from to size → (ws : List ℕ) → length ws ≤ size → t ≡ splice s to ws → Still s t from
@@ -51,10 +52,10 @@ pub still_lane : {s t : List ℕ} {first second : Contents} (h : Header) (beats 
     → lane_joined h beats lane t first second ≡ lane_joined h beats lane s first second
 unfolding lane_joined
 still_lane {first = first} {second = second} h beats lane a b =
-    let e = a.notes first.notes (omega arith) in
-    let f = a.cells first.cells (omega arith) in
-    let g = b.notes second.notes (omega arith) in
-    let i = b.cells second.cells (omega arith) in
+    let e = a.notes first.notes.left (omega arith) in
+    let f = a.cells first.cells.left (omega arith) in
+    let g = b.notes second.notes.left (omega arith) in
+    let i = b.cells second.cells.left (omega arith) in
     (λ j. join_lane h beats (note_run lane (e j)) (cell_run lane (f j)) (note_run lane (g j)) (cell_run lane (i j)))
 
 -- ---- the two parts of a lane's notes
@@ -67,23 +68,19 @@ length-but_last : (xs : List Note) → length (but_last xs) ≡ length xs - 1
 length-but_last [] = refl
 length-but_last (x ∷ xs) = omega (arith, ap length (snoc x xs), length-append (but_last (x ∷ xs)) (last_or x xs ∷ []))
 
-pub lane-parts : (r : Seam) (line : ℕ) (ms ns : List Note) → lane_by r line ms ns ≡ front_by r ms ++ map (note_later line) (back_by r ns)
+pub lane-parts : (seam : Option Seam) (line : ℕ) (ms ns : List Note) → lane_by seam line ms ns ≡ front_by seam ms ++ map (note_later line) (back_by seam ns)
 unfolding lane_by front_by back_by
-lane-parts r line ms ns = go r.over (cond r.held (but_last ms) ms) (cond r.skipped _ ns)
-  where
-    go : (b : Bool) (xs ys : List Note) → cond b (xs ++ r.note ∷ map (note_later line) ys) (ms ++ map (note_later line) ns)
-        ≡ cond b (xs ++ r.note ∷ []) ms ++ map (note_later line) (cond b ys ns)
-    go true xs ys = sym (append_assoc xs (r.note ∷ []) (map (note_later line) ys))
-    go false xs ys = refl
+lane-parts None line ms ns = refl
+lane-parts (Some r) line ms ns = sym (append_assoc (cond r.held (but_last ms) ms) (r.note ∷ []) (map (note_later line) (cond r.skipped _ ns)))
 
-pub front_length : (r : Seam) (ms : List Note) → length (front_by r ms) ≡ seam_end r (length ms)
+pub front_length : (seam : Option Seam) (ms : List Note) → length (front_by seam ms) ≡ seam_end seam (length ms)
 unfolding front_by seam_end kept_by
-front_length r ms = go r.over r.held
+front_length None ms = refl
+front_length (Some r) ms = go r.held
   where
-    go : (b g : Bool) → length (cond b (cond g (but_last ms) ms ++ r.note ∷ []) ms) ≡ cond b (cond g (length ms - 1) (length ms) + 1) (length ms)
-    go false g = refl
-    go true true = length-append (but_last ms) (r.note ∷ []) ∙ ap (λ (n : ℕ). n + 1) (length-but_last ms)
-    go true false = length-append ms (r.note ∷ [])
+    go : (g : Bool) → length (cond g (but_last ms) ms ++ r.note ∷ []) ≡ cond g (length ms - 1) (length ms) + 1
+    go true = length-append (but_last ms) (r.note ∷ []) ∙ ap (λ (n : ℕ). n + 1) (length-but_last ms)
+    go false = length-append ms (r.note ∷ [])
 
 -- no fewer than the first take's
 pub lane_long : (h : Header) (k : ℕ) (ms : List Note) (cs : List Cell) (ns : List Note) (ds : List Cell) → length ms ≤ length (join_lane h k ms cs ns ds)
@@ -126,19 +123,23 @@ one_over s to (x ∷ xs) n =
     ∙ splice_over (splice s to (gather note_words ms)) at (note_words (last_or x xs)) at (note_words n) (omega arith) (omega arith)
     ∙ one-behind s to ms n
 
-pub front_put : {s s₁ t : List ℕ} {to q : ℕ} (r : Seam) (ms : List Note) → s₁ ≡ splice s to (gather note_words ms) → SeamPut s₁ to (length ms) r t q → Noted s to (front_by r ms) t q
-unfolding front_by kept_by
-front_put {s} {s₁} {t} {to} r ms e p =
-    record { words = p.words ∙ put; behind = p.behind ∙ ap (λ (n : ℕ). to + 4 * n) (sym (front_length r ms)) }
+-- with it, if there is one
+over_put : (s : List ℕ) (to : ℕ) (seam : Option Seam) (ms : List Note) → seam_words (splice s to (gather note_words ms)) to (length ms) seam ≡ splice s to (gather note_words (front_by seam ms))
+unfolding seam_words front_by kept_by
+over_put s to None ms = refl
+over_put s to (Some r) ms = go r.held
   where
-    go : (b g : Bool) → cond b (splice s₁ (to + 4 * cond g (length ms - 1) (length ms)) (note_words r.note)) s₁
-        ≡ splice s to (gather note_words (cond b (cond g (but_last ms) ms ++ r.note ∷ []) ms))
-    go false g = e
-    go true true = ap (λ (l : List ℕ). splice l (to + 4 * (length ms - 1)) (note_words r.note)) e ∙ one_over s to ms r.note
-    go true false = ap (λ (l : List ℕ). splice l (to + 4 * length ms) (note_words r.note)) e ∙ one-behind s to ms r.note
+    go : (g : Bool) → splice (splice s to (gather note_words ms)) (to + 4 * cond g (length ms - 1) (length ms)) (note_words r.note)
+        ≡ splice s to (gather note_words (cond g (but_last ms) ms ++ r.note ∷ []))
+    go true = one_over s to ms r.note
+    go false = one-behind s to ms r.note
 
-    put : cond r.over (splice s₁ (to + 4 * kept_by r (length ms)) (note_words r.note)) s₁ ≡ splice s to (gather note_words (front_by r ms))
-    put = go r.over r.held
+pub front_put : {s s₁ t : List ℕ} {to q : ℕ} (seam : Option Seam) (ms : List Note) → s₁ ≡ splice s to (gather note_words ms) → SeamPut s₁ to (length ms) seam t q
+    → Noted s to (front_by seam ms) t q
+front_put {s} {to = to} seam ms e p = record {
+  words = p.words ∙ ap (λ (l : List ℕ). seam_words l to (length ms) seam) e ∙ over_put s to seam ms;
+  behind = p.behind ∙ ap (λ (n : ℕ). to + 4 * n) (sym (front_length seam ms));
+}
 
 pub later_none : (ns : List Note) → map (note_later 0) ns ≡ ns
 later_none [] = refl
@@ -164,9 +165,9 @@ cells-run s lane end k r e =
     )
 
 -- a take's notes or cells inside what is placed are apart from what is written
-pub notes-apart : {s : List ℕ} {from : Contents} {to size : ℕ} → Placed s from to size → (k at n : ℕ) → k ≤ from.notes → to ≤ at → at + n ≤ to + size
-    → Apart (from.middle - 4 * k) (4 * k) at n
+pub notes-apart : {s : List ℕ} {from : Contents} {to size : ℕ} → Placed s from to size → (k at n : ℕ) → k ≤ from.notes.left → to ≤ at → at + n ≤ to + size
+    → Apart (from.notes.end - 4 * k) (4 * k) at n
 notes-apart {from = from} p k at n few low high =
     apart-within at n
-    (apart_swap (apart-within (from.middle - 4 * k) (4 * k) (apart_swap p.apart) (omega (arith, p.notes_in_lem)) (omega (arith, p.notes_in_lem, p.order))))
+    (apart_swap (apart-within (from.notes.end - 4 * k) (4 * k) (apart_swap p.apart) (omega (arith, p.notes_in_lem)) (omega (arith, p.notes_in_lem, p.order))))
     low high

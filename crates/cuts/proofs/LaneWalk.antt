@@ -2,7 +2,6 @@
 use mathlib.Core.Path.{◌≡◌, refl, sym, ap, subst, ◌∙◌}
 use mathlib.Core.List.{List, [], ◌++◌}
 use Prim.Native.Nat.{ℕ, suc, ◌+◌, ◌-◌, ◌*◌, ◌≤◌, ◌<◌}
-use native.Mathlib.Nat.{mul-le-mul}
 use native.Mathlib.Omega.{arith}
 use lib.ListN.{length, length-append}
 use Rattle.words.specs.Apart.{Apart, apart-within}
@@ -21,7 +20,7 @@ use Rattle.session.specs.Reading.{last_notes, last_cells}
 use Rattle.cuts.specs.declared.halves.Contents.{Contents}
 use Rattle.cuts.specs.declared.lanes.Rests.{Rests}
 use Rattle.cuts.specs.Halving.{Noted, Placed}
-use Rattle.cuts.specs.Seams.{Shiftable, InPlace}
+use Rattle.cuts.specs.Seams.{Shiftable}
 use Rattle.cuts.specs.LaneNotes.{Reaching, notes_from, cells_from, lane_joined, lanes_joined, Joinable, LeftOf, LanePut, JoinNotesAsks}
 use Rattle.cuts.proofs.JoinCells.{all-last}
 use Rattle.cuts.proofs.JoinSeam.{all-last_notes}
@@ -31,10 +30,10 @@ use Rattle.cuts.proofs.LaneParts.{Still, still_by, still_lane}
 
 -- It stands at the take's places.
 pub record Within (from r : Contents) : Type 0 where
-  pub middle_is : r.middle ≡ from.middle
-  pub end_is : r.end ≡ from.end
-  pub notes_few : r.notes ≤ from.notes
-  pub cells_few : r.cells ≤ from.cells
+  pub middle_is : r.notes.end ≡ from.notes.end
+  pub end_is : r.cells.end ≡ from.cells.end
+  pub notes_few : r.notes.left ≤ from.notes.left
+  pub cells_few : r.cells.left ≤ from.cells.left
 
 within_all : (from : Contents) → Within from from
 within_all from = record { middle_is = refl; end_is = refl; notes_few = omega arith; cells_few = omega arith }
@@ -63,13 +62,13 @@ module _ {from r : Contents} (w : Within from r) where
   module _ {s : List ℕ} {to size : ℕ} (p : Placed s from to size) where
     notes-within : (P : Note → Type 0) → All P (notes_from s from) → All P (notes_from s r)
     notes-within P a =
-        subst (λ (m : ℕ). All P (last_notes s m r.notes)) (sym w.middle_is)
-        (all-last_notes P s from.middle from.notes r.notes w.notes_few (omega (arith, p.notes_in_lem)) a)
+        subst (λ (m : ℕ). All P (last_notes s m r.notes.left)) (sym w.middle_is)
+        (all-last_notes P s from.notes.end from.notes.left r.notes.left w.notes_few (omega (arith, p.notes_in_lem)) a)
 
     cells-within : (P : Cell → Type 0) → All P (cells_from s from) → All P (cells_from s r)
     cells-within P a =
-        subst (λ (m : ℕ). All P (last_cells s m r.cells)) (sym w.end_is)
-        (all-last P s from.end from.cells r.cells w.cells_few (omega (arith, p.cells_in)) a)
+        subst (λ (m : ℕ). All P (last_cells s m r.cells.left)) (sym w.end_is)
+        (all-last P s from.cells.end from.cells.left r.cells.left w.cells_few (omega (arith, p.cells_in)) a)
 
   -- behind a lane
   within-left : {s : List ℕ} {lane : ℕ} {q : Contents} → LeftOf s lane r q → Within from q
@@ -83,13 +82,13 @@ module _ {from r : Contents} (w : Within from r) where
 module _ {s₀ s : List ℕ} {lane : ℕ} {from r : Contents} (st : Still s₀ s from) (l : LeftOf s lane from r) where
   left-notes : notes_from s₀ r ≡ note_rest lane (notes_from s₀ from)
   left-notes =
-      ap (λ (m : ℕ). last_notes s₀ m r.notes) l.middle_is ∙ sym (st.notes r.notes l.left.notes_few) ∙ l.left.notes_are
-      ∙ ap (note_rest lane) (st.notes from.notes (omega arith))
+      ap (λ (m : ℕ). last_notes s₀ m r.notes.left) l.middle_is ∙ sym (st.notes r.notes.left l.left.notes_few) ∙ l.left.notes_are
+      ∙ ap (note_rest lane) (st.notes from.notes.left (omega arith))
 
   left_cells_lem : cells_from s₀ r ≡ cell_rest lane (cells_from s₀ from)
   left_cells_lem =
-      ap (λ (m : ℕ). last_cells s₀ m r.cells) l.end_is ∙ sym (st.cells r.cells l.left.cells_few) ∙ l.left.cells_are
-      ∙ ap (cell_rest lane) (st.cells from.cells (omega arith))
+      ap (λ (m : ℕ). last_cells s₀ m r.cells.left) l.end_is ∙ sym (st.cells r.cells.left l.left.cells_few) ∙ l.left.cells_are
+      ∙ ap (cell_rest lane) (st.cells from.cells.left (omega arith))
 
 -- ---- the walk
 
@@ -119,9 +118,6 @@ module _ {s₀ : List ℕ} {to : ℕ} {h : Header} {beats : ℕ} {first second :
   abbrev all : List Note
   all = lanes_joined h beats s₀ first second
 
-  pub line_word : line ≤ 4294967295
-  line_word = omega (arith, mul-le-mul a.beats_few a.ticks_few)
-
   pub walk_start : Walked s₀ s₀ to h beats first second (record { at = to; first = first; second = second }) 0
   walk_start = record { first_in = within_all first; second_in = within_all second; lanes = a.four; writes = writes_start s₀ to _ }
 
@@ -132,20 +128,12 @@ module _ {s₀ : List ℕ} {to : ℕ} {h : Header} {beats : ℕ} {first second :
     first_still : Still s₀ s rests.first
     first_still =
         let p = a.joinable.first-placed in
-        still_within w.first_in (still_by p (writes_same w.writes (subst (λ (n : ℕ). Apart p.low (first.end - p.low) to n) (sym size) p.apart)))
+        still_within w.first_in (still_by p (writes_same w.writes (subst (λ (n : ℕ). Apart p.low (first.cells.end - p.low) to n) (sym size) p.apart)))
 
     second_still : Still s₀ s rests.second
     second_still =
         let p = a.joinable.second_placed in
-        still_within w.second_in (still_by p (writes_same w.writes (subst (λ (n : ℕ). Apart p.low (second.end - p.low) to n) (sym size) p.apart)))
-
-    place_in : {r : Contents} {n : ℕ} → Placed s r rests.at n → InPlace s r
-    place_in p = record {
-      notes_in_lem = omega (arith, p.notes_in_lem);
-      notes-inside = omega (arith, p.order, p.inside);
-      cells_in = omega (arith, p.cells_in);
-      cells-inside = p.inside;
-    }
+        still_within w.second_in (still_by p (writes_same w.writes (subst (λ (n : ℕ). Apart p.low (second.cells.end - p.low) to n) (sym size) p.apart)))
 
     first-placed : (n : ℕ) → rests.at + n ≤ to + 4 * length all → Placed s rests.first rests.at n
     first-placed n fits = placed-within w.first_in a.joinable.first-placed w.writes.long rests.at n w.writes.low fits
@@ -153,18 +141,14 @@ module _ {s₀ : List ℕ} {to : ℕ} {h : Header} {beats : ℕ} {first second :
     second_placed : (n : ℕ) → rests.at + n ≤ to + 4 * length all → Placed s rests.second rests.at n
     second_placed n fits = placed-within w.second_in a.joinable.second_placed w.writes.long rests.at n w.writes.low fits
 
-    pub both_in : InPlace s rests.first × InPlace s rests.second
-    both_in =
-        (place_in (first-placed 0 (omega (arith, w.writes.place, size))), place_in (second_placed 0 (omega (arith, w.writes.place, size))))
-
     -- the lane that is next
     module _ {lane : ℕ} (e : lane ≡ least s rests.first rests.second) where
       lane_is : lane ≡ least s₀ rests.first rests.second
       lane_is =
-          let f = first_still.notes rests.first.notes (omega arith) in
-          let g = first_still.cells rests.first.cells (omega arith) in
-          let i = second_still.notes rests.second.notes (omega arith) in
-          let k = second_still.cells rests.second.cells (omega arith) in
+          let f = first_still.notes rests.first.notes.left (omega arith) in
+          let g = first_still.cells rests.first.cells.left (omega arith) in
+          let i = second_still.notes rests.second.notes.left (omega arith) in
+          let k = second_still.cells rests.second.cells.left (omega arith) in
           e ∙ (λ x. least_lane (f x) (g x) (i x) (k x))
 
       pub walk_next : Walking s₀ s to h beats first second rests lane
@@ -221,15 +205,14 @@ module _ {s₀ : List ℕ} {to : ℕ} {h : Header} {beats : ℕ} {first second :
           let g = second_still lane w in
           let can = Shiftable line in
           record {
-            line_is = refl;
             first-placed = first-placed lane w (4 * length here) fits;
             second_placed = second_placed lane w (4 * length here) fits;
             first_shiftable =
-                subst (All can) (sym (f.notes rests.first.notes (omega arith))) (notes-within w.first_in j.first-placed can j.first_shiftable);
+                subst (All can) (sym (f.notes rests.first.notes.left (omega arith))) (notes-within w.first_in j.first-placed can j.first_shiftable);
             second_shiftable =
-                subst (All can) (sym (g.notes rests.second.notes (omega arith))) (notes-within w.second_in j.second_placed can j.second_shiftable);
+                subst (All can) (sym (g.notes rests.second.notes.left (omega arith))) (notes-within w.second_in j.second_placed can j.second_shiftable);
             second_reaching =
-                subst (All (Reaching line)) (sym (g.cells rests.second.cells (omega arith))) (cells-within w.second_in j.second_placed (Reaching line) j.second_reaching);
+                subst (All (Reaching line)) (sym (g.cells rests.second.cells.left (omega arith))) (cells-within w.second_in j.second_placed (Reaching line) j.second_reaching);
           }
 
       pub walk-lane : {t : List ℕ} {r : Rests} → LanePut s rests.at h beats lane rests.first rests.second t r → Walked s₀ t to h beats first second r (suc lane)

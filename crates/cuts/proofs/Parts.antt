@@ -17,12 +17,18 @@ use Rattle.laws.specs.Sweep.{skip}
 use Rattle.laws.specs.Cutting.{note_back, first_cell, closing_cell}
 use Rattle.session.specs.Reading.{cell_at, last_cells}
 use Rattle.session.proofs.Lasts.{no_cells, cons}
+use Rattle.std.proofs.Math.Bridge.{le_prop}
+use Rattle.cuts.specs.declared.halves.Contents.{Contents}
 use Rattle.cuts.specs.declared.halves.Half.{Half}
-use Rattle.cuts.specs.Halving.{left_half, passed, line_cell, crossed_note, crossed_by, across_parts, note_part, Noted}
+use Rattle.cuts.specs.Halving.{is_right, contents_by, passed, line_cell, crossed_note, crossed_by, across_parts, note_part, Noted}
 
--- the left half of a split at beat 0
-pub left-none : (δ k : ℕ) → k ≡ 0 → ◌≡◌ {A = Half} (record { right = false; beat = 0; line = 0; edge = 0; beats = 0 }) (left_half δ k)
-left-none δ k e = let z : 0 * δ ≡ 0 = omega arith in rw (e, z)
+-- the same notes and cells
+pub contents_same : (at N C : ℕ) (p : 4 * N ≤ at + 3 + 4 * N) (q : 6 * C ≤ at + 3 + 4 * N + 6 * C)
+    → ◌≡◌ {A = Contents} (record { notes = record { end = at + 3 + 4 * N; left = N; fits = p }; cells = record { end = at + 3 + 4 * N + 6 * C; left = C; fits = q } }) (contents_by at N C)
+contents_same at N C p q = λ i. record {
+  notes = record { end = at + 3 + 4 * N; left = N; fits = le_prop p (contents_by at N C).notes.fits i };
+  cells = record { end = at + 3 + 4 * N + 6 * C; left = C; fits = le_prop q (contents_by at N C).cells.fits i };
+}
 
 -- ---- nothing written, and one written
 
@@ -56,36 +62,41 @@ module _ (v : Half) (n : Note) (cs : List Cell) where
 
 -- ---- the half's cell on the line
 
-module _ (v : Half) (ws : List ℕ) (end : ℕ) where
-  pub line-right : v.right ≡ true → (k : ℕ) → first_cell (last_cells ws end k) ≡ line_cell v (last_cells ws end k)
+module _ (v : Half) (cs : List Cell) where
+  pub line-right : is_right v.side ≡ true → first_cell cs ≡ line_cell v cs
   unfolding line_cell
-  line-right e k = rw e
+  line-right e = rw e
 
-  module _ (e : v.right ≡ false) (k : ℕ) where
-    pub line-none : k ≡ 0 → first_cell (last_cells ws end k) ≡ line_cell v (last_cells ws end k)
-    unfolding line_cell first_cell closing_cell
-    line-none z = rw (e, z, no_cells ws end)
+  pub line-left : is_right v.side ≡ false → closing_cell cs ≡ line_cell v cs
+  unfolding line_cell
+  line-left e = rw e
 
-    module _ (some : (k ≡ 0 → ⊥)) (fits : 6 * k ≤ end) {c : Cell} (is : c ≡ cell_at ws (end - 6 * k)) where
-      split : last_cells ws end k ≡ c ∷ last_cells ws end (k - 1)
-      split = cons ws end k (omega arith) fits is
+-- the closing cell of the beat in front
+module _ (ws : List ℕ) (end k : ℕ) where
+  pub closing-none : k ≡ 0 → first_cell (last_cells ws end k) ≡ closing_cell (last_cells ws end k)
+  unfolding first_cell closing_cell
+  closing-none z = rw (z, no_cells ws end)
 
-      pub line_second : c.side ≡ 0 → first_cell (last_cells ws end (k - 1)) ≡ line_cell v (last_cells ws end k)
-      unfolding line_cell closing_cell
-      line_second o = rw (e, split, eq-eqb c.side 0 o)
+  module _ (some : (k ≡ 0 → ⊥)) (fits : 6 * k ≤ end) {c : Cell} (is : c ≡ cell_at ws (end - 6 * k)) where
+    split : last_cells ws end k ≡ c ∷ last_cells ws end (k - 1)
+    split = cons ws end k (omega arith) fits is
 
-      pub line_first : (c.side ≡ 0 → ⊥) → first_cell (last_cells ws end k) ≡ line_cell v (last_cells ws end k)
-      unfolding line_cell first_cell closing_cell
-      line_first o = rw (e, split, ne_eqb c.side 0 o)
+    pub closing_second : c.side ≡ 0 → first_cell (last_cells ws end (k - 1)) ≡ closing_cell (last_cells ws end k)
+    unfolding closing_cell
+    closing_second o = rw (split, eq-eqb c.side 0 o)
+
+    pub closing_first : (c.side ≡ 0 → ⊥) → first_cell (last_cells ws end k) ≡ closing_cell (last_cells ws end k)
+    unfolding first_cell closing_cell
+    closing_first o = rw (split, ne_eqb c.side 0 o)
 
 -- ---- a note that crosses the line
 
 module _ (v : Half) (n : Note) (velocity : ℕ) where
-  pub crossed_right : v.right ≡ true → ◌≡◌ {A = Note} (record { lane = n.lane; start = 0; end = n.end - v.line; velocity = velocity }) (crossed_note v n velocity)
+  pub crossed_right : is_right v.side ≡ true → ◌≡◌ {A = Note} (record { lane = n.lane; start = 0; end = n.end - v.line; velocity = velocity }) (crossed_note v n velocity)
   unfolding crossed_note
   crossed_right e = rw e
 
-  pub crossed_left : v.right ≡ false → ◌≡◌ {A = Note} (record { lane = n.lane; start = n.start; end = v.line; velocity = n.velocity }) (crossed_note v n velocity)
+  pub crossed_left : is_right v.side ≡ false → ◌≡◌ {A = Note} (record { lane = n.lane; start = n.start; end = v.line; velocity = n.velocity }) (crossed_note v n velocity)
   unfolding crossed_note
   crossed_left e = rw e
 
@@ -122,21 +133,21 @@ module _ (h : Header) (v : Half) (n : Note) (cs : List Cell) where
   part = note_part h v n cs
 
   module _ (i : n.end ≤ v.line) where
-    pub part-before-right : v.right ≡ true → part ≡ []
+    pub part-before-right : is_right v.side ≡ true → part ≡ []
     unfolding note_part
     part-before-right e = rw (le-leb n.end v.line i, e)
 
-    pub part-before-left : v.right ≡ false → part ≡ n ∷ []
+    pub part-before-left : is_right v.side ≡ false → part ≡ n ∷ []
     unfolding note_part
     part-before-left e = rw (le-leb n.end v.line i, e)
 
   module _ (i : v.line < n.end) where
     module _ (j : v.line ≤ n.start) where
-      pub part-behind-right : v.right ≡ true → part ≡ note_back v.line n ∷ []
+      pub part-behind-right : is_right v.side ≡ true → part ≡ note_back v.line n ∷ []
       unfolding note_part
       part-behind-right e = rw (lt-leb n.end v.line i, le-leb v.line n.start j, e)
 
-      pub part-behind-left : v.right ≡ false → part ≡ []
+      pub part-behind-left : is_right v.side ≡ false → part ≡ []
       unfolding note_part
       part-behind-left e = rw (lt-leb n.end v.line i, le-leb v.line n.start j, e)
 

@@ -15,7 +15,7 @@ use Rattle.laws.specs.Cutting.{first_cell, closing_cell, cross_left, cross_right
 use Rattle.session.specs.Reading.{note_at, cell_at, last_notes, last_cells}
 use Rattle.session.proofs.Lasts.{no_notes, no_cells, last_notes_lem, last_cells_lem}
 use Rattle.cuts.specs.declared.halves.Half.{Half}
-use Rattle.cuts.specs.Halving.{HalfOk, passed, line_cell, crossed_note, crossed_by, across_parts, note_part, note_parts}
+use Rattle.cuts.specs.Halving.{is_right, HalfOk, passed, line_cell, crossed_note, crossed_by, across_parts, note_part, note_parts}
 
 -- ---- notes and cells of two lists whose words agree
 
@@ -61,38 +61,38 @@ module _ (l m : List ℕ) where
 -- ---- one step of the pass over the notes
 
 module _ (h : Header) (v : Half) (ok : HalfOk h.delta v) where
-  pub parts-right : v.right ≡ true → (ns : List Note) (cs : List Cell) → note_parts h v ns cs ≡ cut_right_from h v.beat ns cs
+  pub parts-right : is_right v.side ≡ true → (ns : List Note) (cs : List Cell) → note_parts h v ns cs ≡ cut_right_from h v.beat ns cs
   unfolding note_parts
   parts-right e ns cs = rw e
 
-  pub parts-left : v.right ≡ false → (ns : List Note) (cs : List Cell) → note_parts h v ns cs ≡ cut_left_from h v.beat ns cs
+  pub parts-left : is_right v.side ≡ false → (ns : List Note) (cs : List Cell) → note_parts h v ns cs ≡ cut_left_from h v.beat ns cs
   unfolding note_parts
   parts-left e ns cs = rw e
 
-  cell-right : v.right ≡ true → (cs : List Cell) → line_cell v cs ≡ first_cell cs
+  cell-right : is_right v.side ≡ true → (cs : List Cell) → line_cell v cs ≡ first_cell cs
   unfolding line_cell
   cell-right e cs = rw e
 
-  cell-left : v.right ≡ false → (cs : List Cell) → line_cell v cs ≡ closing_cell cs
+  cell-left : is_right v.side ≡ false → (cs : List Cell) → line_cell v cs ≡ closing_cell cs
   unfolding line_cell
   cell-left e cs = rw e
 
   module _ (n : Note) where
-    cross_right_lem : v.right ≡ true → (o : Option Cell) → cross_right h v.beat n o ≡ crossed_by h v n o
+    cross_right_lem : is_right v.side ≡ true → (o : Option Cell) → cross_right h v.beat n o ≡ crossed_by h v n o
     unfolding cross_right crossed_by crossed_note
     cross_right_lem e none = refl
     cross_right_lem e (some c) = rw (e, ← ok.line_is)
 
-    cross_left_lem : v.right ≡ false → (o : Option Cell) → cross_left h v.beat n o ≡ crossed_by h v n o
+    cross_left_lem : is_right v.side ≡ false → (o : Option Cell) → cross_left h v.beat n o ≡ crossed_by h v n o
     unfolding cross_left crossed_by crossed_note
     cross_left_lem e none = refl
     cross_left_lem e (some c) = rw (e, ← ok.line_is)
 
-    across_right : v.right ≡ true → (cs : List Cell) → cross_right h v.beat n (first_cell cs) ≡ across_parts h v n cs
+    across_right : is_right v.side ≡ true → (cs : List Cell) → cross_right h v.beat n (first_cell cs) ≡ across_parts h v n cs
     unfolding across_parts
     across_right e cs = cross_right_lem e (first_cell cs) ∙ ap (crossed_by h v n) (sym (cell-right e cs))
 
-    across_left : v.right ≡ false → (cs : List Cell) → cross_left h v.beat n (closing_cell cs) ≡ across_parts h v n cs
+    across_left : is_right v.side ≡ false → (cs : List Cell) → cross_left h v.beat n (closing_cell cs) ≡ across_parts h v n cs
     unfolding across_parts
     across_left e cs = cross_left_lem e (closing_cell cs) ∙ ap (crossed_by h v n) (sym (cell-left e cs))
 
@@ -118,19 +118,19 @@ module _ (h : Header) (v : Half) (ok : HalfOk h.delta v) where
         across_step : (b : ℕ) → v.edge ≡ b → note_parts h v (n ∷ ns) cs ≡ across_parts h v n (skip n.lane b cs) ++ note_parts h v ns (skip n.lane b cs) → Step
         across_step b e f = let is : passed v n cs ≡ skip n.lane b cs = seen ∙ ap (λ (x : ℕ). skip n.lane x cs) e in rw (is_across (passed v n cs), is) f
 
-        step_right : v.right ≡ true → Step
+        step_right : is_right v.side ≡ true → Step
         step_right e =
             let ds = skip n.lane v.beat cs in
             across_step v.beat (ok.edge_is ∙ rw e)
             (parts-right e (n ∷ ns) cs ∙ right_step h v.beat n ns cs ∙ rw (out_line, over_line, across_right e ds, parts-right e ns ds))
 
-        step_left : v.right ≡ false → Step
+        step_left : is_right v.side ≡ false → Step
         step_left e =
             let ds = skip n.lane (v.beat - 1) cs in
             across_step (v.beat - 1) (ok.edge_is ∙ rw e)
             (parts-left e (n ∷ ns) cs ∙ left_step h v.beat n ns cs ∙ rw (out_line, over_line, across_left e ds, parts-left e ns ds))
 
-      step_by : (b t u : Bool) → v.right ≡ b → leb n.end v.line ≡ t → leb v.line n.start ≡ u → Step
+      step_by : (b t u : Bool) → is_right v.side ≡ b → leb n.end v.line ≡ t → leb v.line n.start ≡ u → Step
       unfolding note_parts note_part passed
       step_by true true u eb et eu = rw (eb, et) (right_step h v.beat n ns cs ∙ rw (← ok.line_is, et))
       step_by true false true eb et eu = rw (eb, et, eu) (right_step h v.beat n ns cs ∙ rw (← ok.line_is, et, eu))
@@ -140,11 +140,11 @@ module _ (h : Header) (v : Half) (ok : HalfOk h.delta v) where
       step_by false false false eb et eu = step_left et eu eb
 
       pub parts_step : Step
-      parts_step = step_by v.right (leb n.end v.line) (leb v.line n.start) refl refl refl
+      parts_step = step_by (is_right v.side) (leb n.end v.line) (leb v.line n.start) refl refl refl
 
 pub no_parts : (h : Header) (v : Half) (cs : List Cell) → note_parts h v [] cs ≡ []
 unfolding note_parts cut_left_from cut_right_from
-no_parts h v cs = go v.right
+no_parts h v cs = go (is_right v.side)
   where
     go : (b : Bool) → cond {A = List Note} b [] [] ≡ []
     go true = refl

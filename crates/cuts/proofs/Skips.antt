@@ -1,8 +1,8 @@
 -- A search among a shelf's cells that goes on from another search's place. Assumes nothing.
 use mathlib.Core.Path.{◌≡◌, refl, sym, ap, ◌∙◌}
-use mathlib.Core.Bool.{Bool, true, false, cond, ◌&&◌, ◌||◌}
+use mathlib.Core.Bool.{Bool, true, false, ◌&&◌, ◌||◌}
 use mathlib.Core.List.{List, [], ◌∷◌}
-use Prim.Native.Nat.{ℕ, zero, suc, ◌+◌, ◌-◌, ◌*◌, ◌≤◌, ◌<◌}
+use Prim.Native.Nat.{ℕ, zero, suc, ◌+◌, ◌-◌, ◌*◌, ◌≤◌, ◌<◌, min}
 use native.Mathlib.Omega.{arith}
 use borrow.Author.Tests.{ltb-true, ltb-false, lt-ltb}
 use lib.Dec.{eqb, ltb}
@@ -63,7 +63,7 @@ module _ (s : List ℕ) (end : ℕ) where
 
   -- the search for a later beat may go on from the place that is further on
   pub goes_on : (l b d c r o : ℕ) → b ≤ d → 6 * c ≤ end → o ≤ c → last_cells s end r ≡ skip l b (last_cells s end c)
-      → {x : ℕ} → x ≡ cond (ltb r o) r o → {k : ℕ} → (last_cells s end k ≡ skip l d (last_cells s end x)) × (k ≤ x)
+      → {x : ℕ} → x ≡ min r o → {k : ℕ} → (last_cells s end k ≡ skip l d (last_cells s end x)) × (k ≤ x)
       → (last_cells s end k ≡ skip l d (last_cells s end o)) × (k ≤ o) × (k ≤ r)
   goes_on l b d c r o up fits within e {x} is {k} f = go (ltb r o) refl
     where
@@ -73,11 +73,11 @@ module _ (s : List ℕ) (end : ℕ) where
       go : (t : Bool) → ltb r o ≡ t → Result
       go true g =
           let less : r < o = ltb-true r o g in
-          let at-r : x ≡ r = is ∙ rw g in
+          let at-r : x ≡ r = omega (arith, is, less) in
           let split : (c - o) + o ≡ c = omega arith in
           let same : last_cells s end r ≡ skip l b (last_cells s end o) = search_from l b o r (c - o) (rw split fits) less (rw split e) in
           (f.0 ∙ rw (at-r, same) (skip-skip l b d up (last_cells s end o)), omega (arith, f.1), omega (arith, f.1))
       go false g =
-          let at-o : x ≡ o = is ∙ rw g in
           let more : o ≤ r = ltb-false r o g in
+          let at-o : x ≡ o = omega (arith, is, more) in
           (f.0 ∙ rw at-o, omega (arith, f.1), omega (arith, f.1))

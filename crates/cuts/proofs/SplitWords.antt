@@ -72,8 +72,8 @@ module _ {s : List ℕ} {h : Header} {a b : Half} {i j k : ℕ} (q : BothAsks s 
     both-placed : (x : List ℕ) → length x ≡ length s → (to : Ends) (y z : ℕ) → l ≤ to.left → to.left + y ≤ l + h.words → m ≤ to.right → to.right + z ≤ m + h.words
         → BothPlaced x from to y z
     both-placed x long to y z left_low left-high right_low right-high =
-        let source : (n : ℕ) → Apart (shelf_at h i) h.words n h.words → Apart (shelf_at h i) (from.end - shelf_at h i) n h.words =
-        λ n e. apart_swap (apart-within (shelf_at h i) (from.end - shelf_at h i) (apart_swap e) (omega arith) (omega (arith, r))) in
+        let source : (n : ℕ) → Apart (shelf_at h i) h.words n h.words → Apart (shelf_at h i) (from.cells.end - shelf_at h i) n h.words =
+        λ n e. apart_swap (apart-within (shelf_at h i) (from.cells.end - shelf_at h i) (apart_swap e) (omega arith) (omega (arith, r))) in
         record {
           low = shelf_at h i;
           notes_in_lem = omega (arith, r);
@@ -98,8 +98,8 @@ module _ {s : List ℕ} {h : Header} {a b : Half} {i j k : ℕ} (q : BothAsks s 
     }
 
     module _ {s₁ : List ℕ} {middle : Ends}
-        (noted : BothPut s (record { left = l + 3; right = m + 3 }) (gather note_words (notes_left h a s from from.notes from.cells))
-        (gather note_words (notes_left h b s from from.notes from.cells)) s₁ middle) where
+        (noted : BothPut s (record { left = l + 3; right = m + 3 }) (gather note_words (notes_left h a s from from.notes.left from.cells.left))
+        (gather note_words (notes_left h b s from from.notes.left from.cells.left)) s₁ middle) where
       notes_put : BothPut s (record { left = l + 3; right = m + 3 }) (gather note_words (notes_of h lefts)) (gather note_words (notes_of h rights)) s₁ middle
       notes_put = rw (notes_left_lem la r, notes_left_lem ra right_read) at noted
 
@@ -123,17 +123,17 @@ module _ {s : List ℕ} {h : Header} {a b : Half} {i j k : ℕ} (q : BothAsks s 
       long₁ = ap length right_noted.words ∙ length-splice s' (m + 3) (gather note_words (notes_of h rights)) ∙ long'
 
       -- the cells are as they were
-      cells_now : last_cells s₁ from.end from.cells ≡ t.cells
+      cells_now : last_cells s₁ from.cells.end from.cells.left ≡ t.cells
       cells_now =
           cells_still (notes_of h rights) (placed ra right_read s' long' (m + 3) _ (omega (arith, right-at)) (omega (arith, right-at, room ra))) right_noted
           ∙ cells_still (notes_of h lefts) (placed la r s refl (l + 3) _ (omega (arith, left_at)) (omega (arith, left_at, room la))) left_noted
           ∙ r.cells_are
 
-      left_cells_now : left_cells a.beat s₁ from from.cells ≡ lefts.cells
+      left_cells_now : left_cells a.beat s₁ from from.cells.left ≡ lefts.cells
       unfolding left_cells
       left_cells_now = rw cells_now (left_cells_lem h.delta a t q.sides.left_is)
 
-      right_cells_now : right_cells a.beat s₁ from from.cells ≡ rights.cells
+      right_cells_now : right_cells a.beat s₁ from from.cells.left ≡ rights.cells
       unfolding right_cells
       right_cells_now = rw (cells_now, ← q.sides.beat_is) (right_cells_lem h.delta b t q.sides.right_is)
 
@@ -145,7 +145,7 @@ module _ {s : List ℕ} {h : Header} {a b : Half} {i j k : ℕ} (q : BothAsks s 
       }
 
       module _ {s₂ : List ℕ} {end : Ends}
-          (made : BothPut s₁ middle (gather cell_words (left_cells a.beat s₁ from from.cells)) (gather cell_words (right_cells a.beat s₁ from from.cells)) s₂ end) where
+          (made : BothPut s₁ middle (gather cell_words (left_cells a.beat s₁ from from.cells.left)) (gather cell_words (right_cells a.beat s₁ from from.cells.left)) s₂ end) where
         cells-put : BothPut s₁ middle (gather cell_words lefts.cells) (gather cell_words rights.cells) s₂ end
         cells-put = rw (left_cells_now, right_cells_now) at made
 

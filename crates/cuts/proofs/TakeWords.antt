@@ -10,7 +10,7 @@ use Rattle.words.specs.Parts.{Same, splice_same}
 use Rattle.words.specs.Splice.{splice, length-splice}
 use Rattle.model.specs.Lists.{gather}
 use Rattle.model.specs.Limits.{max_words}
-use Rattle.model.specs.Takes.{Take, note_words, cell_words, words_used, notes_of, words_of}
+use Rattle.model.specs.Takes.{Take, note_words, cell_words, notes_of, words_of}
 use Rattle.model.specs.Questions.{fits}
 use Rattle.model.specs.declared.Header.{Header}
 use Rattle.model.specs.declared.Note.{Note}
@@ -25,11 +25,11 @@ use Rattle.cuts.proofs.Passes.{cells_agree}
 
 -- the cells of a shelf are as they were while notes are written elsewhere
 pub cells_still : {s s₁ : List ℕ} {from : Contents} {to middle : ℕ} (ns : List Note) → Placed s from to (4 * length ns) → Noted s to ns s₁ middle
-    → last_cells s₁ from.end from.cells ≡ last_cells s from.end from.cells
+    → last_cells s₁ from.cells.end from.cells.left ≡ last_cells s from.cells.end from.cells.left
 cells_still {s} {s₁} {from} {to} ns p noted =
-    let same : Same s₁ s p.low (from.end - p.low) = rw noted.words (splice_same s to (gather note_words ns) p.apart (omega (arith, length-note_words ns))) in
-    cells_agree s₁ s from.end from.end from.cells (omega (arith, p.cells_in)) (omega (arith, p.cells_in))
-    (λ k pos upto. same.at (from.end - k) (omega (arith, p.cells_in)) (omega (arith, p.cells_in)))
+    let same : Same s₁ s p.low (from.cells.end - p.low) = rw noted.words (splice_same s to (gather note_words ns) p.apart (omega (arith, length-note_words ns))) in
+    cells_agree s₁ s from.cells.end from.cells.end from.cells.left (omega (arith, p.cells_in)) (omega (arith, p.cells_in))
+    (λ k pos upto. same.at (from.cells.end - k) (omega (arith, p.cells_in)) (omega (arith, p.cells_in)))
 
 -- a take that fits has room
 pub take-room : (h : Header) (v : Take) → fits h v ≡ true → 3 + 4 * length (notes_of h v) + 6 * length v.cells ≤ h.words
@@ -60,9 +60,6 @@ module _ (h : Header) (v : Take) (small : h.words ≤ max_words) (fit : fits h v
     notes_few = omega (arith, take-room h v fit);
     cells_few = omega (arith, take-room h v fit);
   }
-
-  pub frame_asks : (at + h.words ≤ length s₂) × (words_used ((middle - (at + 3)) / 4) ((end - middle) / 6) ≤ h.words)
-  frame_asks = (omega (arith, long, inside), rw (counted.notes-count, counted.cells_count) (take-room h v fit))
 
   pub take_put : {beats : ℕ} → beats ≡ v.beats → {s₃ : List ℕ} → s₃ ≡ framed s₂ at h.words beats ((middle - (at + 3)) / 4) ((end - middle) / 6)
       → s₃ ≡ splice s at (words_of h v)

@@ -14,7 +14,7 @@ use Rattle.cuts.specs.declared.halves.Contents.{Contents}
 use Rattle.cuts.specs.declared.halves.Ends.{Ends}
 use Rattle.cuts.specs.declared.halves.CellPlace.{CellPlace}
 use Rattle.cuts.specs.declared.halves.Cursors.{Cursors}
-use Rattle.cuts.specs.Halving.{HalfOk, HalfAsks, passed, note_part, notes_left}
+use Rattle.cuts.specs.Halving.{is_right, HalfOk, HalfAsks, passed, note_part, notes_left}
 
 -- ---- words written from two places on
 
@@ -24,19 +24,15 @@ pub record BothPut (s : List ℕ) (at : Ends) (ls rs : List ℕ) (t : List ℕ) 
   pub left_behind : r.left ≡ at.left + length ls
   pub right-behind : r.right ≡ at.right + length rs
 
--- The places that cursors stand at.
-abbrev pub places_of : Cursors → Ends
-places_of at = record { left = at.left; right = at.right }
-
 -- The notes and cells of a shelf stand in their places from `low` on, apart from the words that are written, which are apart too.
 pub record BothPlaced (s : List ℕ) (from : Contents) (to : Ends) (m n : ℕ) : Type 0 where
   pub low : ℕ
-  pub notes_in_lem : low + 4 * from.notes ≤ from.middle
-  pub cells_in : low + 6 * from.cells ≤ from.end
-  pub order : from.middle ≤ from.end
-  pub inside : from.end ≤ length s
-  pub left-from : Apart low (from.end - low) to.left m
-  pub right-from : Apart low (from.end - low) to.right n
+  pub notes_in_lem : low + 4 * from.notes.left ≤ from.notes.end
+  pub cells_in : low + 6 * from.cells.left ≤ from.cells.end
+  pub order : from.notes.end ≤ from.cells.end
+  pub inside : from.cells.end ≤ length s
+  pub left-from : Apart low (from.cells.end - low) to.left m
+  pub right-from : Apart low (from.cells.end - low) to.right n
   pub apart : Apart to.left m to.right n
   pub left-room : to.left + m ≤ length s
   pub right-room : to.right + n ≤ length s
@@ -45,8 +41,8 @@ pub record BothPlaced (s : List ℕ) (from : Contents) (to : Ends) (m n : ℕ) :
 
 -- The left half and the right half of one split.
 pub record Sides (a b : Half) : Type 0 where
-  pub left_is : a.right ≡ false
-  pub right_is : b.right ≡ true
+  pub left_is : is_right a.side ≡ false
+  pub right_is : is_right b.side ≡ true
   pub beat_is : b.beat ≡ a.beat
   pub line_is : b.line ≡ a.line
   pub edges : a.edge ≤ b.edge
@@ -62,9 +58,9 @@ pub record PartsAsks (s : List ℕ) (h : Header) (a b : Half) (n : Note) (end : 
   pub closings_in : 6 * at.closings ≤ end
   pub order : at.openings ≤ at.closings
   pub inside : end ≤ length s
-  pub left-room : at.left + 4 * length (part_from h a n (last_cells s end at.closings)) ≤ length s
-  pub right-room : at.right + 4 * length (part_from h b n (last_cells s end at.openings)) ≤ length s
-  pub apart : Apart (end - 6 * at.openings) (6 * at.openings) at.left (4 * length (part_from h a n (last_cells s end at.closings)))
+  pub left-room : at.to.left + 4 * length (part_from h a n (last_cells s end at.closings)) ≤ length s
+  pub right-room : at.to.right + 4 * length (part_from h b n (last_cells s end at.openings)) ≤ length s
+  pub apart : Apart (end - 6 * at.openings) (6 * at.openings) at.to.left (4 * length (part_from h a n (last_cells s end at.closings)))
 
 -- Both parts written, and the cells that the note leaves to those behind it.
 pub record PartsPut (s : List ℕ) (h : Header) (a b : Half) (n : Note) (end : ℕ) (at : Cursors) (t : List ℕ) (r : Cursors) : Type 0 where
@@ -73,14 +69,14 @@ pub record PartsPut (s : List ℕ) (h : Header) (a b : Half) (n : Note) (end : �
   pub openings_are : last_cells s end r.openings ≡ passed b n (last_cells s end at.openings)
   pub openings_few : r.openings ≤ at.openings
   pub order : r.openings ≤ r.closings
-  pub put : BothPut s (places_of at) (gather note_words (part_from h a n (last_cells s end at.closings)))
-      (gather note_words (part_from h b n (last_cells s end at.openings))) t (places_of r)
+  pub put : BothPut s at.to (gather note_words (part_from h a n (last_cells s end at.closings)))
+      (gather note_words (part_from h b n (last_cells s end at.openings))) t r.to
 
 pub record NotesAsks (s : List ℕ) (h : Header) (a b : Half) (from : Contents) (to : Ends) : Type 0 where
   pub sides : Sides a b
   pub left_half : HalfOk h.delta a
   pub right_half : HalfOk h.delta b
-  pub placed : BothPlaced s from to (4 * length (notes_left h a s from from.notes from.cells)) (4 * length (notes_left h b s from from.notes from.cells))
+  pub placed : BothPlaced s from to (4 * length (notes_left h a s from from.notes.left from.cells.left)) (4 * length (notes_left h b s from from.notes.left from.cells.left))
 
 -- ---- cells
 
@@ -94,8 +90,8 @@ right_cell k c = cons_if (leb k c.beat) (cell_to (c.beat - k) c) []
 -- Where a cell goes, its beat there, and the places behind each half's cells then.
 unfoldable pub cell_place : ℕ → ℕ → Ends → CellPlace
 cell_place k own at =
-    cond (ltb own k) (record { to = at.left; beat = own; left = at.left + 6; right = at.right })
-    (record { to = at.right; beat = own - k; left = at.left; right = at.right + 6 })
+    cond (ltb own k) (record { to = at.left; beat = own; behind = record { left = at.left + 6; right = at.right } })
+    (record { to = at.right; beat = own - k; behind = record { left = at.left; right = at.right + 6 } })
 
 -- Behind a cell at such a place there still is a place.
 abbrev pub max_place : ℕ
@@ -104,14 +100,14 @@ max_place = 18446744073709551609
 -- Each half's cells of the last cells.
 unfoldable pub left_cells : ℕ → List ℕ → Contents → ℕ → List Cell
 unfolding left_cell last_cells
-left_cells k s from left = gather (left_cell k) (last_cells s from.end left)
+left_cells k s from left = gather (left_cell k) (last_cells s from.cells.end left)
 
 unfoldable pub right_cells : ℕ → List ℕ → Contents → ℕ → List Cell
 unfolding right_cell last_cells
-right_cells k s from left = gather (right_cell k) (last_cells s from.end left)
+right_cells k s from left = gather (right_cell k) (last_cells s from.cells.end left)
 
 pub record CellsAsks (s : List ℕ) (k : ℕ) (from : Contents) (to : Ends) : Type 0 where
-  pub placed : BothPlaced s from to (6 * length (left_cells k s from from.cells)) (6 * length (right_cells k s from from.cells))
+  pub placed : BothPlaced s from to (6 * length (left_cells k s from from.cells.left)) (6 * length (right_cells k s from from.cells.left))
 
 -- ---- the halves
 

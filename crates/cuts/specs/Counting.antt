@@ -12,6 +12,7 @@ use Rattle.session.specs.Reading.{last_cells}
 use Rattle.cuts.specs.declared.counting.CellRun.{CellRun}
 use Rattle.cuts.specs.declared.counting.SeamCount.{SeamCount}
 use Rattle.cuts.specs.declared.halves.Contents.{Contents}
+use Rattle.cuts.specs.declared.lasts.Last.{Last}
 use Rattle.cuts.specs.Joined.{JoinAsks}
 
 -- How many pairs, and how many of their cells stand alone.
@@ -27,44 +28,42 @@ pair_at h beats c d = cons_if (bound_at h beats c d) (c, d) []
 -- ---- the cells of a lane
 
 unfoldable pub run_cells : List ℕ → CellRun → List Cell
-run_cells s r = cell_run r.lane (last_cells s r.end r.left)
+run_cells s r = cell_run r.lane (last_cells s r.cells.end r.cells.left)
 
 -- They stand in their places, in front of those that are left.
 pub record RunAhead (s : List ℕ) (r : CellRun) : Type 0 where
-  pub cells_in : 6 * r.left ≤ r.end
-  pub inside : r.end ≤ length s
-  pub rest_is : last_cells s r.end r.rest ≡ cell_rest r.lane (last_cells s r.end r.left)
-  pub fewer : r.rest ≤ r.left
+  pub inside : r.cells.end ≤ length s
+  pub rest_is : last_cells s r.cells.end r.rest.left ≡ cell_rest r.lane (last_cells s r.cells.end r.cells.left)
+  pub end_is : r.rest.end ≡ r.cells.end
+  pub fewer : r.rest.left ≤ r.cells.left
 
-pub record RunAt (s : List ℕ) (lane end left : ℕ) (r : CellRun) : Type 0 where
+pub record RunAt (s : List ℕ) (lane : ℕ) (cells : Last 6) (r : CellRun) : Type 0 where
   pub lane_is : r.lane ≡ lane
-  pub end_is : r.end ≡ end
-  pub left_is : r.left ≡ left
+  pub end_is : r.cells.end ≡ cells.end
+  pub left_is : r.cells.left ≡ cells.left
   pub ahead : RunAhead s r
 
 -- ---- all lanes
 
 -- The cells of two takes in their places, in the order of lanes, and not too many pairs to count.
 pub record SeamsAsks (s : List ℕ) (h : Header) (beats : ℕ) (first second : Contents) : Type 0 where
-  pub first_in : 6 * first.cells ≤ first.end
-  pub first-inside : first.end ≤ length s
-  pub second_in : 6 * second.cells ≤ second.end
-  pub second_inside : second.end ≤ length s
-  pub first-from : From (λ c. c.lane) 0 (last_cells s first.end first.cells)
-  pub second_from : From (λ c. c.lane) 0 (last_cells s second.end second.cells)
-  pub few : length (seams h beats (last_cells s first.end first.cells) (last_cells s second.end second.cells)) ≤ max_words
+  pub first-inside : first.cells.end ≤ length s
+  pub second_inside : second.cells.end ≤ length s
+  pub first-from : From (λ c. c.lane) 0 (last_cells s first.cells.end first.cells.left)
+  pub second_from : From (λ c. c.lane) 0 (last_cells s second.cells.end second.cells.left)
+  pub few : length (seams h beats (last_cells s first.cells.end first.cells.left) (last_cells s second.cells.end second.cells.left)) ≤ max_words
 
 -- ---- the words of the result
 
 -- The words of n, N and C, of two takes' notes and cells, and of so many notes more.
 unfoldable pub counted_words : Contents → Contents → ℕ → ℕ
-counted_words first second more = 3 + 4 * (first.notes + second.notes + more) + 6 * (first.cells + second.cells)
+counted_words first second more = 3 + 4 * (first.notes.left + second.notes.left + more) + 6 * (first.cells.left + second.cells.left)
 
 -- Numbers that can be summed.
 pub record CountsAsks (h : Header) (first second : Contents) (more fewer : ℕ) : Type 0 where
   pub words_few : h.words ≤ max_words
-  pub first_few : first.notes + first.cells ≤ max_words
-  pub second_few : second.notes + second.cells ≤ max_words
+  pub first_few : first.notes.left + first.cells.left ≤ max_words
+  pub second_few : second.notes.left + second.cells.left ≤ max_words
   pub more_few : more ≤ max_words
   pub fewer_few : fewer ≤ 2 * max_words
 

@@ -37,9 +37,8 @@ pub record Movable (beats : ℕ) (c : Cell) : Type 0 where
   pub lane_below : c.lane < 2048
   pub beat_word : beats + c.beat ≤ 4294967295
 
--- The last cells of a run stand in their places, apart from the words that are written, and can be moved.
+-- The last cells of a run stand apart from the words that are written, and can be moved.
 pub record RunAsks (s : List ℕ) (beats end left to size : ℕ) : Type 0 where
-  pub cells_in : 6 * left ≤ end
   pub inside : end ≤ length s
   pub movable : All (Movable beats) (last_cells s end left)
   pub apart : Apart (end - 6 * left) (6 * left) to size
@@ -71,13 +70,12 @@ pub record PutBefore (s : List ℕ) (to : ℕ) (c : Cell) (beats end left : ℕ)
 -- The joined cells of the first take's last k and the second's last j cells.
 unfoldable pub cells_joined : ℕ → List ℕ → Contents → Contents → ℕ → ℕ → List Cell
 unfolding later_cells merge_lane
-cells_joined beats s first second k j = merge_lane (λ c. c.lane) (last_cells s first.end k) (later_cells beats s second.end j)
+cells_joined beats s first second k j = merge_lane (λ c. c.lane) (last_cells s first.cells.end k) (later_cells beats s second.cells.end j)
 
 pub record JoinedAsks (s : List ℕ) (to beats : ℕ) (first second : Contents) : Type 0 where
-  pub first_in : 6 * first.cells ≤ first.end
-  pub first-inside : first.end ≤ length s
-  pub first-apart : Apart (first.end - 6 * first.cells) (6 * first.cells) to (6 * length (cells_joined beats s first second first.cells second.cells))
-  pub run : RunAsks s beats second.end second.cells to (6 * length (cells_joined beats s first second first.cells second.cells))
+  pub first-inside : first.cells.end ≤ length s
+  pub first-apart : Apart (first.cells.end - 6 * first.cells.left) (6 * first.cells.left) to (6 * length (cells_joined beats s first second first.cells.left second.cells.left))
+  pub run : RunAsks s beats second.cells.end second.cells.left to (6 * length (cells_joined beats s first second first.cells.left second.cells.left))
 
 -- ---- two shelves
 

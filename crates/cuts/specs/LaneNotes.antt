@@ -1,5 +1,5 @@
 -- The notes of a join, written lane by lane: what each function is asked, and what it leaves. Assumes nothing.
-use Rattle.std.specs.Prelude.{◌≡◌, cond, false, List, [], ◌∷◌, ◌++◌, ℕ, ◌+◌, ◌-◌, ◌*◌, ◌≤◌, length}
+use Rattle.std.specs.Prelude.{◌≡◌, cond, Option, None, Some, List, [], ◌∷◌, ◌++◌, ℕ, ◌+◌, ◌-◌, ◌*◌, ◌≤◌, length}
 use Rattle.words.specs.Splice.{splice}
 use Rattle.model.specs.Limits.{max_beats, max_delta}
 use Rattle.model.specs.Takes.{note_words}
@@ -22,10 +22,10 @@ use Rattle.cuts.specs.Seams.{Shiftable, RunRead, InPlace, lane_by, lane_notes}
 
 -- What is left of a take: its notes, and its cells.
 abbrev pub notes_from : List ℕ → Contents → List Note
-notes_from s from = last_notes s from.middle from.notes
+notes_from s from = last_notes s from.notes.end from.notes.left
 
 abbrev pub cells_from : List ℕ → Contents → List Cell
-cells_from s from = last_cells s from.end from.cells
+cells_from s from = last_cells s from.cells.end from.cells.left
 
 -- The joined notes of a lane that stands in front; and of all lanes.
 unfoldable pub lane_joined : Header → ℕ → ℕ → List ℕ → Contents → Contents → List Note
@@ -41,7 +41,6 @@ pub record Reaching (ticks : ℕ) (c : Cell) : Type 0 where
 
 -- Two takes stand in their places, apart from the words of the notes to be written, and their ticks can be moved to the line between them.
 pub record Joinable (s : List ℕ) (to : ℕ) (h : Header) (beats line : ℕ) (first second : Contents) (notes : List Note) : Type 0 where
-  pub line_is : line ≡ beats * h.delta
   pub first-placed : Placed s first to (4 * length notes)
   pub second_placed : Placed s second to (4 * length notes)
   pub first_shiftable : All (Shiftable line) (notes_from s first)
@@ -50,17 +49,11 @@ pub record Joinable (s : List ℕ) (to : ℕ) (h : Header) (beats line : ℕ) (f
 
 -- ---- the seam of a lane
 
--- No note goes over the line.
-abbrev pub apart_seam : Seam
-apart_seam = record { over = false; held = false; skipped = false; note = record { lane = 0; start = 0; end = 0; velocity = 0 } }
-
 -- The first take's notes and cells of the lane are read up to those that are left.
 pub record SeamAsks (s : List ℕ) (h : Header) (beats line lane : ℕ) (first : Contents) (rest cells : ℕ) (second : Contents) : Type 0 where
-  pub line_is : line ≡ beats * h.delta
-  pub notes_read : RunRead s lane first.middle first.notes rest
-  pub cells_in : 6 * first.cells ≤ first.end
-  pub cells-inside : first.end ≤ length s
-  pub cells_count : first.cells ≡ cells + length (cell_run lane (cells_from s first))
+  pub notes_read : RunRead s lane first.notes.end first.notes.left rest
+  pub cells-inside : first.cells.end ≤ length s
+  pub cells_count : first.cells.left ≡ cells + length (cell_run lane (cells_from s first))
   pub second_in : InPlace s second
   pub second_shiftable : All (Shiftable line) (notes_from s second)
   pub second_reaching : All (Reaching line) (cells_from s second)
@@ -69,24 +62,33 @@ pub record SeamAsks (s : List ℕ) (h : Header) (beats line lane : ℕ) (first :
 unfoldable pub kept_by : Seam → ℕ → ℕ
 kept_by r count = cond r.held (count - 1) count
 
-unfoldable pub seam_end : Seam → ℕ → ℕ
+unfoldable pub seam_end : Option Seam → ℕ → ℕ
 unfolding kept_by
-seam_end r count = cond r.over (kept_by r count + 1) count
+seam_end None count = count
+seam_end (Some r) count = kept_by r count + 1
 
--- The note over the line is written behind those, and the place behind it is r.
-pub record SeamPut (s : List ℕ) (to count : ℕ) (seam : Seam) (t : List ℕ) (r : ℕ) : Type 0 where
-  pub words : t ≡ cond seam.over (splice s (to + 4 * kept_by seam count) (note_words seam.note)) s
+-- The words where that note is written behind those.
+unfoldable pub seam_words : List ℕ → ℕ → ℕ → Option Seam → List ℕ
+unfolding kept_by
+seam_words s to count None = s
+seam_words s to count (Some r) = splice s (to + 4 * kept_by r count) (note_words r.note)
+
+-- It is written, and the place behind it is r.
+pub record SeamPut (s : List ℕ) (to count : ℕ) (seam : Option Seam) (t : List ℕ) (r : ℕ) : Type 0 where
+  pub words : t ≡ seam_words s to count seam
   pub behind : r ≡ to + 4 * seam_end seam count
 
 -- The lane's notes up to the seam, with the note over the line; and the second take's behind it.
-unfoldable pub front_by : Seam → List Note → List Note
-front_by r ms = cond r.over (cond r.held (but_last ms) ms ++ r.note ∷ []) ms
+unfoldable pub front_by : Option Seam → List Note → List Note
+front_by None ms = ms
+front_by (Some r) ms = cond r.held (but_last ms) ms ++ r.note ∷ []
 
-unfoldable pub back_by : Seam → List Note → List Note
-back_by r ns = cond r.over (cond r.skipped (but_first ns) ns) ns
+unfoldable pub back_by : Option Seam → List Note → List Note
+back_by None ns = ns
+back_by (Some r) ns = cond r.skipped (but_first ns) ns
 
 -- The last r notes begin with the lane's notes behind its seam.
-pub record BackFrom (s : List ℕ) (seam : Seam) (lane end left r : ℕ) : Type 0 where
+pub record BackFrom (s : List ℕ) (seam : Option Seam) (lane end left r : ℕ) : Type 0 where
   pub run : note_run lane (last_notes s end r) ≡ back_by seam (note_run lane (last_notes s end left))
   pub rest : note_rest lane (last_notes s end r) ≡ note_rest lane (last_notes s end left)
   pub few : r ≤ left
@@ -95,25 +97,22 @@ pub record BackFrom (s : List ℕ) (seam : Seam) (lane end left r : ℕ) : Type 
 
 -- So many notes and cells.
 pub record Behind (s : List ℕ) (lane : ℕ) (from : Contents) (notes cells : ℕ) : Type 0 where
-  pub notes_are : last_notes s from.middle notes ≡ note_rest lane (notes_from s from)
-  pub notes_few : notes ≤ from.notes
-  pub cells_are : last_cells s from.end cells ≡ cell_rest lane (cells_from s from)
-  pub cells_few : cells ≤ from.cells
+  pub notes_are : last_notes s from.notes.end notes ≡ note_rest lane (notes_from s from)
+  pub notes_few : notes ≤ from.notes.left
+  pub cells_are : last_cells s from.cells.end cells ≡ cell_rest lane (cells_from s from)
+  pub cells_few : cells ≤ from.cells.left
+
+-- At the take's places.
+pub record LeftOf (s : List ℕ) (lane : ℕ) (from r : Contents) : Type 0 where
+  pub middle_is : r.notes.end ≡ from.notes.end
+  pub end_is : r.cells.end ≡ from.cells.end
+  pub left : Behind s lane from r.notes.left r.cells.left
 
 -- The lane's notes up to the seam are written.
 pub record FirstPut (s : List ℕ) (to : ℕ) (h : Header) (beats line lane : ℕ) (first second : Contents) (t : List ℕ) (r : Front) : Type 0 where
   pub noted : Noted s to (front_by r.seam (lane_notes lane s first)) t r.at
   pub lane_is : lane_joined h beats lane s first second ≡ lane_by r.seam line (lane_notes lane s first) (lane_notes lane s second)
-  pub left : Behind s lane first r.notes r.cells
-
--- What is left of a take, at its places.
-abbrev pub left_of : Contents → ℕ → ℕ → Contents
-left_of from notes cells = record { notes = notes; middle = from.middle; cells = cells; end = from.end }
-
-pub record LeftOf (s : List ℕ) (lane : ℕ) (from r : Contents) : Type 0 where
-  pub middle_is : r.middle ≡ from.middle
-  pub end_is : r.end ≡ from.end
-  pub left : Behind s lane from r.notes r.cells
+  pub left : LeftOf s lane first r.rest
 
 -- The joined notes of the lane are written.
 pub record LanePut (s : List ℕ) (to : ℕ) (h : Header) (beats lane : ℕ) (first second : Contents) (t : List ℕ) (r : Rests) : Type 0 where

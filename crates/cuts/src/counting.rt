@@ -4,19 +4,20 @@ ghost use Rattle.model.specs.Limits.{lane_count};
 ghost use Rattle.model.specs.Questions.{fits, take_at};
 ghost use Rattle.model.specs.Takes.{join_takes};
 ghost use Rattle.laws.specs.JoinCount.{seams};
-ghost use Rattle.laws.specs.Seam.{one, seam_of};
+ghost use Rattle.laws.specs.Seam.{seam_of};
 ghost use Rattle.session.specs.Reading.{last_cells};
 ghost use Rattle.cuts.specs.Counting.{count_of, pair_at, run_cells, RunAhead, RunAt, SeamsAsks, CountsAsks, counted_words, FitAsks};
 
 use crate::halves::Contents;
-use crate::{halves, seam};
+use crate::lasts::Cells;
+use crate::{halves, joined, seam};
 use model::{Cell, Header};
-use session::{header, notes, rules};
+use session::{notes, rules};
 
 // ---- the pair of a lane
 
 // Pairs of cells that are bound over the line between two takes.
-#[derive(Drop)]
+#[derive(Clone, Copy, Default)]
 pub struct SeamCount {
     // How many pairs.
     pub pairs: usize,
@@ -24,56 +25,36 @@ pub struct SeamCount {
     pub alone: usize,
 }
 
-// No pair.
-fn no_pair() -> SeamCount
-    ensures { result ≡ record { pairs = 0; alone = 0 } }
-{
-    SeamCount { pairs: 0, alone: 0 }
-}
-
-// 1 if a test is passed.
-fn one_if(passed: bool) -> usize
-    ensures { result ≡ one passed }
-{
-    if passed {
-        return 1;
-    }
-    0
-}
-
 // The pair of two cells, if they are bound over the line.
 fn pair_count(h: Header, beats: u32, c: Cell, d: Cell) -> SeamCount
     ensures { result ≡ count_of h (pair_at h beats c d) }
 {
     if !seam::bound_over(h, beats, c, d) {
-        return no_pair();
+        return SeamCount::default();
     }
     SeamCount {
         pairs: 1,
-        alone: one_if(rules::stands_alone(h, c)) + one_if(rules::stands_alone(h, d)),
+        alone: usize::from(rules::stands_alone(h, c)) + usize::from(rules::stands_alone(h, d)),
     }
 }
 
-// The cells of a lane in front of the last `left` cells up to `end`; `rest` are left behind them.
+// The cells of a lane in front of the last cells, and those that are left behind them.
 #[derive(Clone, Copy)]
 pub struct CellRun {
     pub lane: u32,
-    pub end: usize,
-    pub left: usize,
-    pub rest: usize,
+    pub cells: Cells,
+    pub rest: Cells,
 }
 
-// The cells of a lane in front of the last `left` cells up to `end`.
-fn cell_run(s: &[u32], lane: u32, end: usize, left: usize) -> CellRun
-    requires { (6 * left ≤ end) × (end ≤ length s.now) }
-    ensures { RunAt s.now lane end left result }
+// The cells of a lane in front of the last cells.
+fn cell_run(s: &[u32], lane: u32, cells: Cells) -> CellRun
+    requires { cells.end ≤ length s.now }
+    ensures { RunAt s.now lane cells result }
 {
-    let rest = seam::behind_cell_run(s, end, left, lane);
     CellRun {
         lane,
-        end,
-        left,
-        rest,
+        cells,
+        rest: seam::behind_cell_run(s, cells, lane),
     }
 }
 
@@ -82,14 +63,14 @@ fn lane_count(s: &[u32], h: Header, beats: u32, first: CellRun, second: CellRun)
     requires { RunAhead s.now first × RunAhead s.now second }
     ensures { result ≡ count_of h (seam_of h beats (run_cells s.now first) (run_cells s.now second)) }
 {
-    if first.rest == first.left {
-        return no_pair();
+    if first.rest.left == first.cells.left {
+        return SeamCount::default();
     }
-    if second.rest == second.left {
-        return no_pair();
+    if second.rest.left == second.cells.left {
+        return SeamCount::default();
     }
-    let c = notes::cell_at(s, first.end - 6 * (first.rest + 1));
-    let d = notes::cell_at(s, second.end - 6 * second.left);
+    let c = notes::cell_at(s, first.cells.end - 6 * (first.rest.left + 1));
+    let d = notes::cell_at(s, second.cells.place());
     pair_count(h, beats, c, d)
 }
 
@@ -98,19 +79,17 @@ fn lane_count(s: &[u32], h: Header, beats: u32, first: CellRun, second: CellRun)
 // The pairs of two takes' cells, the first of so many beats: one walk over both, the least lane in front next.
 fn count_seams(s: &[u32], h: Header, beats: u32, first: Contents, second: Contents) -> SeamCount
     requires { SeamsAsks s.now h beats first second }
-    ensures { result ≡ count_of h (seams h beats (last_cells s.now first.end first.cells) (last_cells s.now second.end second.cells)) }
+    ensures { result ≡ count_of h (seams h beats (last_cells s.now first.cells.end first.cells.left) (last_cells s.now second.cells.end second.cells.left)) }
 {
     let mut left = first.cells;
     let mut over = second.cells;
     let mut pairs = 0;
     let mut alone = 0;
-    while 0 < left {
-        let lane = seam::lesser(
-            seam::cell_lane(s, first.end, left),
-            seam::cell_lane(s, second.end, over),
-        );
-        let a = cell_run(s, lane, first.end, left);
-        let b = cell_run(s, lane, second.end, over);
+    // No range: each turn goes behind all cells of a lane.
+    while 0 < left.left {
+        let lane = left.lane(s).min(over.lane(s));
+        let a = cell_run(s, lane, left);
+        let b = cell_run(s, lane, over);
         let next = lane_count(s, h, beats, a, b);
         pairs += next.pairs;
         alone += next.alone;
@@ -122,21 +101,11 @@ fn count_seams(s: &[u32], h: Header, beats: u32, first: Contents, second: Conten
 
 // ---- the question
 
-// The lesser of two numbers.
-fn fewer(a: usize, b: usize) -> usize
-    ensures { result ≡ min a b }
-{
-    if a <= b {
-        return a;
-    }
-    b
-}
-
 // No more pairs of cells are bound over the line than there are lanes, or cells in the take that has fewer.
 fn most_pairs(first: Contents, second: Contents) -> usize
-    ensures { result ≡ min lane_count (min first.cells second.cells) }
+    ensures { result ≡ min lane_count (min first.cells.left second.cells.left) }
 {
-    fewer(Header::LANES as usize, fewer(first.cells, second.cells))
+    (Header::LANES as usize).min(first.cells.left.min(second.cells.left))
 }
 
 // Do the three counts, two takes' notes and cells, and so many notes more, fit a shelf where so many notes are fewer?
@@ -144,8 +113,8 @@ fn counts_fit(h: Header, first: Contents, second: Contents, more: usize, fewer: 
     requires { CountsAsks h first second more fewer }
     ensures { result ≡ leb (counted_words first second more) (h.words + 4 * fewer) }
 {
-    let notes = first.notes + second.notes + more;
-    let cells = first.cells + second.cells;
+    let notes = first.notes.left + second.notes.left + more;
+    let cells = first.cells.left + second.cells.left;
     3 + 4 * notes + 6 * cells <= (h.words as usize) + 4 * fewer
 }
 
@@ -155,12 +124,11 @@ pub fn join_fits(s: &[u32], h: Header, first: u32, second: u32) -> bool
     requires { FitAsks s.now h first second }
     ensures { result ≡ fits h (join_takes h.delta (take_at h s.now first) (take_at h s.now second)) }
 {
-    let at = header::shelf_at(h, first);
-    let a = halves::contents_at(s, at);
-    let b = halves::contents_at(s, header::shelf_at(h, second));
+    let a = halves::contents_of(s, h, first);
+    let b = halves::contents_of(s, h, second);
     if counts_fit(h, a, b, most_pairs(a, b), 0) {
         return true;
     }
-    let seams = count_seams(s, h, s[at], a, b);
+    let seams = count_seams(s, h, joined::beats_at(s, h, first), a, b);
     counts_fit(h, a, b, seams.pairs, seams.alone)
 }

@@ -1,25 +1,32 @@
 // Both halves of a take, written into two other shelves of the session in one pass over the take's own notes and cells.
-ghost use Rattle.std.specs.Prelude.{◌≡◌, cond, ◌+◌, ◌-◌, ◌*◌, ◌/◌, ◌≤◌, ◌<◌, ltb, length};
+ghost use Rattle.std.specs.Prelude.{◌≡◌, true, ◌+◌, ◌-◌, ◌*◌, ◌/◌, ◌≤◌, ◌<◌, length};
 ghost use Rattle.words.specs.Splice.{splice};
 ghost use Rattle.model.specs.Limits.{max_beats, max_delta};
 ghost use Rattle.model.specs.Lists.{gather};
-ghost use Rattle.model.specs.Takes.{note_words, cell_words, cell_to, words_of};
+ghost use Rattle.model.specs.Takes.{note_words, cell_words, words_of};
 ghost use Rattle.model.specs.Session.{shelf_at};
-ghost use Rattle.model.specs.Questions.{take_at};
-ghost use Rattle.laws.specs.Cutting.{first_cell};
+ghost use Rattle.model.specs.Questions.{header_ok, take_at};
+ghost use Rattle.laws.specs.Cutting.{closing_cell, first_cell};
 ghost use Rattle.session.specs.Framing.{framed};
 ghost use Rattle.session.specs.Reading.{last_cells};
 ghost use Rattle.cuts.specs.Halving.{left_half, right_half, half_of, line_cell, crossed_note, across_parts, max_session, contents_by, contents_at, notes_left, Noted};
 ghost use Rattle.cuts.specs.BothHalves.{max_place, cell_place, left_cell, right_cell, left_cells, right_cells, BothPut, PartsAsks, PartsPut, NotesAsks, CellsAsks, CountsAsks, BothAsks};
 
+use crate::lasts::{Cells, Last, Notes};
 use model::{Cell, Header, Note};
 use session::{clear, header, notes, rules, shelf};
+
+// The half before the beat of a split, or the half from that beat on.
+#[derive(Clone, Copy)]
+pub enum Side {
+    Left,
+    Right,
+}
 
 // One half of a take that is split at a beat.
 #[derive(Clone, Copy)]
 pub struct Half {
-    // Is it the right half, the beats from that beat on? Else it is the left half, the beats before it.
-    pub right: bool,
+    pub side: Side,
     // The beat of the split, and the tick of its opening line.
     pub beat: u32,
     pub line: u32,
@@ -34,20 +41,11 @@ pub fn left_half(delta: u32, beat: u32) -> Half
     requires { (delta ≤ max_delta) × (beat ≤ max_beats) }
     ensures { result ≡ left_half delta beat }
 {
-    if beat == 0 {
-        return Half {
-            right: false,
-            beat: 0,
-            line: 0,
-            edge: 0,
-            beats: 0,
-        };
-    }
     Half {
-        right: false,
+        side: Side::Left,
         beat,
         line: beat * delta,
-        edge: beat - 1,
+        edge: beat.saturating_sub(1),
         beats: beat,
     }
 }
@@ -58,7 +56,7 @@ pub fn right_half(delta: u32, beat: u32, beats: u32) -> Half
     ensures { result ≡ right_half delta beat beats }
 {
     Half {
-        right: true,
+        side: Side::Right,
         beat,
         line: beat * delta,
         edge: beat,
@@ -66,13 +64,11 @@ pub fn right_half(delta: u32, beat: u32, beats: u32) -> Half
     }
 }
 
-// The notes of a shelf, how many and the place behind them, and its cells, how many and the place behind them.
+// The notes of a shelf, and its cells, or those of both that are left.
 #[derive(Clone, Copy)]
 pub struct Contents {
-    pub notes: usize,
-    pub middle: usize,
-    pub cells: usize,
-    pub end: usize,
+    pub notes: Notes,
+    pub cells: Cells,
 }
 
 // The notes and cells of a shelf at a place, by its counts.
@@ -80,12 +76,18 @@ fn counted(at: usize, notes: u32, cells: u32) -> Contents
     requires { at ≤ max_session }
     ensures { result ≡ contents_by at notes cells }
 {
-    let middle = at + 3 + 4 * (notes as usize);
+    let notes = notes as usize;
+    let cells = cells as usize;
+    let middle = at + 3 + 4 * notes;
     Contents {
-        notes: notes as usize,
-        middle,
-        cells: cells as usize,
-        end: middle + 6 * (cells as usize),
+        notes: Last {
+            end: middle,
+            left: notes,
+        },
+        cells: Last {
+            end: middle + 6 * cells,
+            left: cells,
+        },
     }
 }
 
@@ -97,24 +99,42 @@ pub fn contents_at(s: &[u32], at: usize) -> Contents
     counted(at, s[at + 1], s[at + 2])
 }
 
+// The notes and cells of the take in a shelf.
+pub fn contents_of(s: &[u32], h: Header, take: u32) -> Contents
+    requires { (header_ok h (length s.now) ≡ true) × (take < h.shelves) }
+    ensures { result ≡ contents_at s.now (shelf_at h take) }
+{
+    contents_at(s, header::shelf_at(h, take))
+}
+
 // ---- notes
 
-// The cells from the half's own cell on the line on: its beat's opening cell for the right half, its beat's closing cell for the left.
-fn line_cells(s: &[u32], half: Half, end: usize, left: usize) -> usize
-    requires { (6 * left ≤ end) × (end ≤ length s.now) }
-    ensures { (first_cell (last_cells s.now end result) ≡ line_cell half (last_cells s.now end left)) × (result ≤ left) }
+// The cells from the closing cell of the beat in front on: behind its opening cell, if that stands there.
+fn closing_cells(s: &[u32], cells: Cells) -> Cells
+    requires { cells.end ≤ length s.now }
+    ensures line { (first_cell (last_cells s.now cells.end result.left) ≡ closing_cell (last_cells s.now cells.end cells.left)) × (result.left ≤ cells.left) }
+    ensures end_is { result.end ≡ cells.end }
 {
-    if half.right {
-        return left;
+    if cells.left == 0 {
+        return cells;
     }
-    if left == 0 {
-        return left;
-    }
-    let c = notes::cell_at(s, end - 6 * left);
+    let c = notes::cell_at(s, cells.place());
     if c.side == 0 {
-        return left - 1;
+        return cells.keep(cells.left - 1);
     }
-    left
+    cells
+}
+
+// The cells from the half's own cell on the line on: its beat's opening cell for the right half, its beat's closing cell for the left.
+fn line_cells(s: &[u32], half: Half, cells: Cells) -> Cells
+    requires { cells.end ≤ length s.now }
+    ensures line { (first_cell (last_cells s.now cells.end result.left) ≡ line_cell half (last_cells s.now cells.end cells.left)) × (result.left ≤ cells.left) }
+    ensures end_is { result.end ≡ cells.end }
+{
+    match half.side {
+        Side::Left => closing_cells(s, cells),
+        Side::Right => cells,
+    }
 }
 
 // The half's part of a note that crosses the line. The right half's has the velocity of its cell.
@@ -122,66 +142,52 @@ fn crossed(half: Half, n: Note, velocity: u32) -> Note
     requires { half.line ≤ n.end }
     ensures { result ≡ crossed_note half n velocity }
 {
-    if half.right {
-        return Note {
-            lane: n.lane,
+    match half.side {
+        Side::Left => Note {
+            end: half.line,
+            ..n
+        },
+        Side::Right => Note {
             start: 0,
             end: n.end - half.line,
             velocity,
-        };
-    }
-    Note {
-        lane: n.lane,
-        start: n.start,
-        end: half.line,
-        velocity: n.velocity,
+            ..n
+        },
     }
 }
 
 // The half's part of a note that crosses the line, if its cell there stands alone. Returns the place behind it.
-fn put_across(
-    s: &mut [u32],
-    to: usize,
-    h: Header,
-    half: Half,
-    n: Note,
-    end: usize,
-    left: usize,
-) -> usize
-    requires { (to + 4 * length (across_parts h half n (last_cells s.old end left)) ≤ length s.old) × (6 * left ≤ end) × (end ≤ length s.old) × (half.line ≤ n.end) }
-    ensures { Noted s.old to (across_parts h half n (last_cells s.old end left)) s.new result }
+fn put_across(s: &mut [u32], to: usize, h: Header, half: Half, n: Note, cells: Cells) -> usize
+    requires { (to + 4 * length (across_parts h half n (last_cells s.old cells.end cells.left)) ≤ length s.old) × (cells.end ≤ length s.old) × (half.line ≤ n.end) }
+    ensures { Noted s.old to (across_parts h half n (last_cells s.old cells.end cells.left)) s.new result }
 {
-    let at = line_cells(s, half, end, left);
-    if at == 0 {
+    let own = line_cells(s, half, cells);
+    if own.left == 0 {
         return to;
     }
-    let c = notes::cell_at(s, end - 6 * at);
+    let c = notes::cell_at(s, own.place());
     if !rules::stands_alone(h, c) {
         return to;
     }
     let part = crossed(half, n, c.velocity);
-    words::put_four(s, to, part.lane, part.start, part.end, part.velocity);
+    words::put(s, to, [part.lane, part.start, part.end, part.velocity]);
     to + 4
 }
 
-// Where each half's next note goes, and how many cells are left among which the left half's closing cells on the line are looked for, and
+// The places behind what is written of each half.
+#[derive(Clone, Copy)]
+pub struct Ends {
+    pub left: usize,
+    pub right: usize,
+}
+
+// Where each half's next note goes, and how many cells, up to the same place, are left among which the left half's closing cells on the line are looked for, and
 // the right half's opening cells.
 #[derive(Drop)]
 pub struct Cursors {
-    pub left: usize,
-    pub right: usize,
+    pub to: Ends,
     pub closings: usize,
     pub openings: usize,
-}
-
-// The lesser of two numbers of cells left: the place that is further on.
-fn further(a: usize, b: usize) -> usize
-    ensures { result ≡ cond (ltb a b) a b }
-{
-    if a < b {
-        return a;
-    }
-    b
 }
 
 // Both halves' parts of a note that crosses the line. The search for the opening cell goes on where the closing cell was found.
@@ -198,13 +204,20 @@ fn put_crossed(
     ensures { PartsPut s.old h before behind n end at s.new result }
 {
     let closings = clear::cells_from(s, end, at.closings, n.lane, before.edge);
-    let ahead = further(closings, at.openings);
+    let ahead = closings.min(at.openings);
     let openings = clear::cells_from(s, end, ahead, n.lane, behind.edge);
-    let left = put_across(s, at.left, h, before, n, end, closings);
-    let right = put_across(s, at.right, h, behind, n, end, openings);
+    let closing = Last {
+        end,
+        left: closings,
+    };
+    let opening = Last {
+        end,
+        left: openings,
+    };
+    let left = put_across(s, at.to.left, h, before, n, closing);
+    let right = put_across(s, at.to.right, h, behind, n, opening);
     Cursors {
-        left,
-        right,
+        to: Ends { left, right },
         closings,
         openings,
     }
@@ -225,20 +238,24 @@ fn put_parts(
 {
     let line = before.line;
     if n.end <= line {
-        words::put_four(s, at.left, n.lane, n.start, n.end, n.velocity);
+        words::put(s, at.to.left, [n.lane, n.start, n.end, n.velocity]);
         return Cursors {
-            left: at.left + 4,
-            right: at.right,
+            to: Ends {
+                left: at.to.left + 4,
+                right: at.to.right,
+            },
             closings: at.closings,
             openings: at.openings,
         };
     }
     if line <= n.start {
         let start = n.start - line;
-        words::put_four(s, at.right, n.lane, start, n.end - line, n.velocity);
+        words::put(s, at.to.right, [n.lane, start, n.end - line, n.velocity]);
         return Cursors {
-            left: at.left,
-            right: at.right + 4,
+            to: Ends {
+                left: at.to.left,
+                right: at.to.right + 4,
+            },
             closings: at.closings,
             openings: at.openings,
         };
@@ -246,53 +263,31 @@ fn put_parts(
     put_crossed(s, h, before, behind, n, end, at)
 }
 
-// The places behind what is written of each half.
-#[derive(Clone, Copy)]
-pub struct Ends {
-    pub left: usize,
-    pub right: usize,
-}
-
 // Both halves' parts of a shelf's notes, in one pass over its notes and cells. Returns the places behind them.
 fn put_notes(s: &mut [u32], h: Header, before: Half, behind: Half, from: Contents, to: Ends) -> Ends
     requires { NotesAsks s.old h before behind from to }
-    ensures { BothPut s.old to (gather note_words (notes_left h before s.old from from.notes from.cells)) (gather note_words (notes_left h behind s.old from from.notes from.cells)) s.new result }
+    ensures { BothPut s.old to (gather note_words (notes_left h before s.old from from.notes.left from.cells.left)) (gather note_words (notes_left h behind s.old from from.notes.left from.cells.left)) s.new result }
 {
     let mut at = Cursors {
-        left: to.left,
-        right: to.right,
-        closings: from.cells,
-        openings: from.cells,
+        to,
+        closings: from.cells.left,
+        openings: from.cells.left,
     };
-    let mut left = from.notes;
-    while 0 < left {
-        let n = notes::note_at(s, from.middle - 4 * left);
-        at = put_parts(s, h, before, behind, n, from.end, at);
-        left -= 1;
+    for left in (1..=from.notes.left).rev() {
+        let n = notes::note_at(s, from.notes.end - 4 * left);
+        at = put_parts(s, h, before, behind, n, from.cells.end, at);
     }
-    Ends {
-        left: at.left,
-        right: at.right,
-    }
+    at.to
 }
 
 // ---- cells
-
-// A cell, put into a beat, written from place `to` on.
-fn put_cell_in(s: &mut [u32], to: usize, beat: u32, c: Cell)
-    requires { to + 6 ≤ length s.old }
-    ensures { s.new ≡ splice s.old to (cell_words (cell_to beat c)) }
-{
-    words::put_six(s, to, c.lane, beat, c.side, c.before, c.after, c.velocity);
-}
 
 // Where a cell of a take goes, its beat there, and the places behind each half's cells then.
 #[derive(Drop)]
 pub struct CellPlace {
     pub to: usize,
     pub beat: u32,
-    pub left: usize,
-    pub right: usize,
+    pub behind: Ends,
 }
 
 // A cell of beat `own` goes to its half, counted from the half's first beat. Only the place is chosen here, so that the write behind it needs
@@ -305,15 +300,19 @@ fn cell_place(beat: u32, own: u32, at: Ends) -> CellPlace
         return CellPlace {
             to: at.left,
             beat: own,
-            left: at.left + 6,
-            right: at.right,
+            behind: Ends {
+                left: at.left + 6,
+                right: at.right,
+            },
         };
     }
     CellPlace {
         to: at.right,
         beat: own - beat,
-        left: at.left,
-        right: at.right + 6,
+        behind: Ends {
+            left: at.left,
+            right: at.right + 6,
+        },
     }
 }
 
@@ -323,24 +322,23 @@ fn put_cell(s: &mut [u32], beat: u32, c: Cell, at: Ends) -> Ends
     ensures { BothPut s.old at (gather cell_words (left_cell beat c)) (gather cell_words (right_cell beat c)) s.new result }
 {
     let place = cell_place(beat, c.beat, at);
-    put_cell_in(s, place.to, place.beat, c);
-    Ends {
-        left: place.left,
-        right: place.right,
-    }
+    words::put(
+        s,
+        place.to,
+        [c.lane, place.beat, c.side, c.before, c.after, c.velocity],
+    );
+    place.behind
 }
 
 // Both halves' cells of a shelf's cells. Returns the places behind them.
 fn put_cells(s: &mut [u32], beat: u32, from: Contents, to: Ends) -> Ends
     requires { CellsAsks s.old beat from to }
-    ensures { BothPut s.old to (gather cell_words (left_cells beat s.old from from.cells)) (gather cell_words (right_cells beat s.old from from.cells)) s.new result }
+    ensures { BothPut s.old to (gather cell_words (left_cells beat s.old from from.cells.left)) (gather cell_words (right_cells beat s.old from from.cells.left)) s.new result }
 {
     let mut at = to;
-    let mut left = from.cells;
-    while 0 < left {
-        let c = notes::cell_at(s, from.end - 6 * left);
+    for left in (1..=from.cells.left).rev() {
+        let c = notes::cell_at(s, from.cells.end - 6 * left);
         at = put_cell(s, beat, c, at);
-        left -= 1;
     }
     at
 }
@@ -348,7 +346,7 @@ fn put_cells(s: &mut [u32], beat: u32, from: Contents, to: Ends) -> Ends
 // ---- the halves
 
 // The counts and zeros of a shelf at a place, whose notes stand up to `middle` and whose cells up to `end`.
-fn put_counts(s: &mut [u32], at: usize, words: u32, beats: u32, middle: usize, end: usize)
+pub fn put_counts(s: &mut [u32], at: usize, words: u32, beats: u32, middle: usize, end: usize)
     requires { CountsAsks s.old at words middle end }
     ensures { s.new ≡ framed s.old at words beats ((middle - (at + 3)) / 4) ((end - middle) / 6) }
 {
@@ -370,7 +368,7 @@ pub fn put_both(
     requires { BothAsks s.old h before behind take left right }
     ensures { s.new ≡ splice (splice s.old (shelf_at h left) (words_of h (half_of h.delta before (take_at h s.old take)))) (shelf_at h right) (words_of h (half_of h.delta behind (take_at h s.old take))) }
 {
-    let from = contents_at(s, header::shelf_at(h, take));
+    let from = contents_of(s, h, take);
     let l = header::shelf_at(h, left);
     let r = header::shelf_at(h, right);
     let first = Ends {

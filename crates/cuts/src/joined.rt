@@ -1,5 +1,5 @@
 // Two takes joined, written into another shelf of the session straight from their own notes and cells.
-ghost use Rattle.std.specs.Prelude.{◌≡◌, true, ◌+◌, ◌*◌, ◌<◌, length};
+ghost use Rattle.std.specs.Prelude.{◌≡◌, true, ◌<◌, length};
 ghost use Rattle.cuts.specs.Making.{Made};
 ghost use Rattle.words.specs.Splice.{splice};
 ghost use Rattle.model.specs.Questions.{header_ok, take_at};
@@ -8,48 +8,55 @@ ghost use Rattle.model.specs.Takes.{join_takes, words_of};
 ghost use Rattle.cuts.specs.Joined.{LowerAsks, Lowered, BeforeAsks, PutBefore, JoinedAsks, cells_joined, PutAsks};
 
 use crate::halves::Contents;
+use crate::lasts::Cells;
 use crate::{halves, lanes};
 use model::{Cell, Header};
-use session::{header, notes, shelf};
+use session::{header, notes};
 
 // ---- cells
 
-// The second take's cells of lower lanes, so many beats later: those in front of the last `left` cells up to `end`. Returns how many are left.
-fn put_lower(s: &mut [u32], to: usize, lane: u32, beats: u32, end: usize, left: usize) -> usize
-    requires { LowerAsks s.old to lane beats end left }
-    ensures { Lowered s.old to lane beats end left s.new result }
+// The second take's cells of lower lanes, so many beats later: those in front of its last cells. Returns those that are left.
+fn put_lower(s: &mut [u32], to: usize, lane: u32, beats: u32, cells: Cells) -> Cells
+    requires { LowerAsks s.old to lane beats cells.end cells.left }
+    ensures put { Lowered s.old to lane beats cells.end cells.left s.new result.left }
+    ensures end_is { result.end ≡ cells.end }
 {
     let mut at = to;
-    let mut rest = left;
-    while 0 < rest {
-        let c = notes::cell_at(s, end - 6 * rest);
+    for rest in (1..=cells.left).rev() {
+        let c = notes::cell_at(s, cells.end - 6 * rest);
         if lane <= c.lane {
-            break;
+            return cells.keep(rest);
         }
-        words::put_six(
+        words::put(
             s,
             at,
-            c.lane,
-            beats + c.beat,
-            c.side,
-            c.before,
-            c.after,
-            c.velocity,
+            [
+                c.lane,
+                beats + c.beat,
+                c.side,
+                c.before,
+                c.after,
+                c.velocity,
+            ],
         );
         at += 6;
-        rest -= 1;
     }
-    rest
+    cells.keep(0)
 }
 
-// A cell of the first take, and before it the second's of lower lanes. Returns how many of the second's are left.
-fn put_before(s: &mut [u32], to: usize, c: Cell, beats: u32, end: usize, left: usize) -> usize
-    requires { BeforeAsks s.old to c beats end left }
-    ensures { PutBefore s.old to c beats end left s.new result }
+// A cell of the first take, and before it the second's of lower lanes. Returns those of the second's that are left.
+fn put_before(s: &mut [u32], to: usize, c: Cell, beats: u32, cells: Cells) -> Cells
+    requires { BeforeAsks s.old to c beats cells.end cells.left }
+    ensures put { PutBefore s.old to c beats cells.end cells.left s.new result.left }
+    ensures end_is { result.end ≡ cells.end }
 {
-    let rest = put_lower(s, to, c.lane, beats, end, left);
-    let at = to + 6 * (left - rest);
-    words::put_six(s, at, c.lane, c.beat, c.side, c.before, c.after, c.velocity);
+    let rest = put_lower(s, to, c.lane, beats, cells);
+    let at = to + 6 * (cells.left - rest.left);
+    words::put(
+        s,
+        at,
+        [c.lane, c.beat, c.side, c.before, c.after, c.velocity],
+    );
     rest
 }
 
@@ -62,20 +69,18 @@ pub fn put_joined_cells(
     second: Contents,
 ) -> usize
     requires { JoinedAsks s.old to beats first second }
-    ensures { Made s.old to (cells_joined beats s.old first second first.cells second.cells) s.new result }
+    ensures { Made s.old to (cells_joined beats s.old first second first.cells.left second.cells.left) s.new result }
 {
     let mut at = to;
-    let mut left = first.cells;
     let mut rest = second.cells;
-    while 0 < left {
-        let c = notes::cell_at(s, first.end - 6 * left);
-        let next = put_before(s, at, c, beats, second.end, rest);
-        at += 6 * (rest - next) + 6;
+    for left in (1..=first.cells.left).rev() {
+        let c = notes::cell_at(s, first.cells.end - 6 * left);
+        let next = put_before(s, at, c, beats, rest);
+        at += 6 * (rest.left - next.left) + 6;
         rest = next;
-        left -= 1;
     }
-    let over = put_lower(s, at, 2048, beats, second.end, rest);
-    at + 6 * (rest - over)
+    let over = put_lower(s, at, 2048, beats, rest);
+    at + 6 * (rest.left - over.left)
 }
 
 // ---- the join
@@ -96,12 +101,10 @@ pub fn put_joined(s: &mut [u32], h: Header, first: u32, second: u32, res: u32)
 {
     let beats = beats_at(s, h, first);
     let total = beats + beats_at(s, h, second);
-    let a = halves::contents_at(s, header::shelf_at(h, first));
-    let b = halves::contents_at(s, header::shelf_at(h, second));
+    let a = halves::contents_of(s, h, first);
+    let b = halves::contents_of(s, h, second);
     let at = header::shelf_at(h, res);
     let middle = lanes::put_joined_notes(s, at + 3, h, beats, a, b);
     let end = put_joined_cells(s, middle, beats, a, b);
-    let notes = (middle - (at + 3)) / 4;
-    let cells = (end - middle) / 6;
-    shelf::put_frame(s, at, h.words as usize, total, notes as u32, cells as u32);
+    halves::put_counts(s, at, h.words, total, middle, end);
 }

@@ -2,148 +2,121 @@
 ghost use Rattle.std.specs.Prelude.{◌≡◌, ◌+◌, ◌*◌, ◌≤◌, length};
 ghost use Rattle.cuts.specs.Halving.{Noted};
 ghost use Rattle.cuts.specs.Seams.{lane_by, lane_notes};
-ghost use Rattle.cuts.specs.LaneNotes.{apart_seam, SeamAsks, kept_by, SeamPut, seam_end, BackFrom, Joinable, FirstPut, left_of, LanePut, JoinNotesAsks, lane_joined, lanes_joined};
+ghost use Rattle.cuts.specs.LaneNotes.{SeamAsks, kept_by, SeamPut, seam_end, BackFrom, Joinable, FirstPut, LanePut, JoinNotesAsks, lane_joined, lanes_joined};
 
 use crate::halves::Contents;
+use crate::lasts::Notes;
+use crate::lines::Line;
 use crate::seam;
 use crate::seam::Seam;
-use model::{Header, Note};
+use model::Header;
 use session::notes;
 
 // ---- the seam of a lane
 
-// No note goes over the line.
-fn no_seam() -> Seam
-    ensures { result ≡ apart_seam }
-{
-    Seam {
-        over: false,
-        held: false,
-        skipped: false,
-        note: Note {
-            lane: 0,
-            start: 0,
-            end: 0,
-            velocity: 0,
-        },
-    }
-}
-
-// What happens at the seam of a lane. Of the first take, all but `rest` notes and `cells` cells are read.
+// The seam of a lane, if a note goes over the line. Of the first take, all but `rest` is read.
 fn seam_of(
     s: &[u32],
-    h: Header,
-    beats: u32,
-    line: u32,
+    at: Line,
     lane: u32,
     first: Contents,
-    rest: usize,
-    cells: usize,
+    rest: Contents,
     second: Contents,
-) -> Seam
-    requires { SeamAsks s.now h beats line lane first rest cells second }
-    ensures { lane_joined h beats lane s.now first second ≡ lane_by result line (lane_notes lane s.now first) (lane_notes lane s.now second) }
+) -> Option<Seam>
+    requires { SeamAsks s.now at.h at.beats at.tick lane first rest.notes.left rest.cells.left second }
+    ensures { lane_joined at.h at.beats lane s.now first second ≡ lane_by result at.tick (lane_notes lane s.now first) (lane_notes lane s.now second) }
 {
-    if cells == first.cells {
-        return no_seam();
+    if rest.cells.left == first.cells.left {
+        return None;
     }
-    if second.cells == 0 {
-        return no_seam();
+    if second.cells.left == 0 {
+        return None;
     }
-    let d = notes::cell_at(s, second.end - 6 * second.cells);
+    let d = notes::cell_at(s, second.cells.place());
     if d.lane != lane {
-        return no_seam();
+        return None;
     }
-    let c = notes::cell_at(s, first.end - 6 * (cells + 1));
-    if !seam::bound_over(h, beats, c, d) {
-        return no_seam();
+    let c = notes::cell_at(s, first.cells.end - 6 * (rest.cells.left + 1));
+    if !seam::bound_over(at.h, at.beats, c, d) {
+        return None;
     }
-    seam::seam_over(s, h, line, c, d, first, rest, second)
+    Some(seam::seam_over(s, at, c, d, first.notes, rest.notes, second.notes))
 }
 
 // How many of so many notes stay in front of the note that goes over the line.
 fn kept_notes(seam: Seam, count: usize) -> usize
     ensures { result ≡ kept_by seam count }
 {
-    if !seam.held {
-        return count;
+    if seam.held {
+        return count.saturating_sub(1);
     }
-    if count == 0 {
-        return 0;
-    }
-    count - 1
+    count
 }
 
 // The note that goes over the line, if one does, behind so many notes from place `to` on. Returns the place behind it.
-fn put_seam(s: &mut [u32], to: usize, count: usize, seam: Seam) -> usize
+fn put_seam(s: &mut [u32], to: usize, count: usize, seam: Option<Seam>) -> usize
     requires { (to + 4 * count ≤ length s.old) × (to + 4 * seam_end seam count ≤ length s.old) }
     ensures { SeamPut s.old to count seam s.new result }
 {
-    if !seam.over {
+    let Some(over) = seam else {
         return to + 4 * count;
-    }
-    let at = to + 4 * kept_notes(seam, count);
-    let n = seam.note;
-    words::put_four(s, at, n.lane, n.start, n.end, n.velocity);
+    };
+    let at = to + 4 * kept_notes(over, count);
+    let n = over.note;
+    words::put(s, at, [n.lane, n.start, n.end, n.velocity]);
     at + 4
 }
 
-// How many of the last `left` notes up to `end` are left where those of a lane behind its seam begin.
-fn behind_seam(s: &[u32], seam: Seam, lane: u32, end: usize, left: usize) -> usize
-    requires { (4 * left ≤ end) × (end ≤ length s.now) }
-    ensures { BackFrom s.now seam lane end left result }
+// The last notes from where those of a lane behind its seam begin.
+fn behind_seam(s: &[u32], seam: Option<Seam>, lane: u32, from: Notes) -> Notes
+    requires { from.end ≤ length s.now }
+    ensures back { BackFrom s.now seam lane from.end from.left result.left }
+    ensures end_is { result.end ≡ from.end }
 {
-    if !seam.over {
-        return left;
+    let Some(over) = seam else {
+        return from;
+    };
+    if !over.skipped {
+        return from;
     }
-    if !seam.skipped {
-        return left;
+    if from.left == 0 {
+        return from;
     }
-    if left == 0 {
-        return left;
-    }
-    let n = notes::note_at(s, end - 4 * left);
+    let n = notes::note_at(s, from.place());
     if n.lane != lane {
-        return left;
+        return from;
     }
-    left - 1
+    from.keep(from.left - 1)
 }
 
 // ---- a lane
 
-// What the first take has in a lane is written up to place `at`, with the note that goes over the line: so many notes and cells are left.
+// What the first take has in a lane is written up to place `at`, with the note that goes over the line: this is left of the take.
 #[derive(Drop)]
 pub struct Front {
     pub at: usize,
-    pub notes: usize,
-    pub cells: usize,
-    pub seam: Seam,
+    pub rest: Contents,
+    pub seam: Option<Seam>,
 }
 
 // The first take's notes of a lane, and the note that goes over the line.
 fn put_front(
     s: &mut [u32],
     to: usize,
-    h: Header,
-    beats: u32,
-    line: u32,
+    line: Line,
     lane: u32,
     first: Contents,
     second: Contents,
 ) -> Front
-    requires { Joinable s.old to h beats line first second (lane_joined h beats lane s.old first second) }
-    ensures { FirstPut s.old to h beats line lane first second s.new result }
+    requires { Joinable s.old to line.h line.beats line.tick first second (lane_joined line.h line.beats lane s.old first second) }
+    ensures { FirstPut s.old to line.h line.beats line.tick lane first second s.new result }
 {
-    let rest = seam::put_note_run(s, to, lane, 0, first.middle, first.notes);
-    let cells = seam::behind_cell_run(s, first.end, first.cells, lane);
-    let seam = seam_of(s, h, beats, line, lane, first, rest, cells, second);
-    let at = put_seam(s, to, first.notes - rest, seam);
-    Front {
-        at,
-        notes: rest,
-        cells,
-        seam,
-    }
+    let notes = seam::put_note_run(s, to, lane, 0, first.notes);
+    let cells = seam::behind_cell_run(s, first.cells, lane);
+    let rest = Contents { notes, cells };
+    let seam = seam_of(s, line, lane, first, rest, second);
+    let at = put_seam(s, to, first.notes.left - notes.left, seam);
+    Front { at, rest, seam }
 }
 
 // The joined notes are written up to place `at`, and this is left of both takes.
@@ -154,31 +127,19 @@ pub struct Rests {
     pub second: Contents,
 }
 
-// So many notes and cells are left of a take.
-fn left_of(from: Contents, notes: usize, cells: usize) -> Contents
-    ensures { result ≡ left_of from notes cells }
-{
-    Contents {
-        notes,
-        middle: from.middle,
-        cells,
-        end: from.end,
-    }
-}
-
 // The joined notes of a lane that stands in front of what is left of both takes.
-fn put_lane(s: &mut [u32], h: Header, beats: u32, line: u32, lane: u32, from: Rests) -> Rests
-    requires { Joinable s.old from.at h beats line from.first from.second (lane_joined h beats lane s.old from.first from.second) }
-    ensures { LanePut s.old from.at h beats lane from.first from.second s.new result }
+fn put_lane(s: &mut [u32], line: Line, lane: u32, from: Rests) -> Rests
+    requires { Joinable s.old from.at line.h line.beats line.tick from.first from.second (lane_joined line.h line.beats lane s.old from.first from.second) }
+    ensures { LanePut s.old from.at line.h line.beats lane from.first from.second s.new result }
 {
-    let front = put_front(s, from.at, h, beats, line, lane, from.first, from.second);
-    let left = behind_seam(s, front.seam, lane, from.second.middle, from.second.notes);
-    let rest = seam::put_note_run(s, front.at, lane, line, from.second.middle, left);
-    let cells = seam::behind_cell_run(s, from.second.end, from.second.cells, lane);
+    let front = put_front(s, from.at, line, lane, from.first, from.second);
+    let behind = behind_seam(s, front.seam, lane, from.second.notes);
+    let notes = seam::put_note_run(s, front.at, lane, line.tick, behind);
+    let cells = seam::behind_cell_run(s, from.second.cells, lane);
     Rests {
-        at: front.at + 4 * (left - rest),
-        first: left_of(from.first, front.notes, front.cells),
-        second: left_of(from.second, rest, cells),
+        at: front.at + 4 * (behind.left - notes.left),
+        first: front.rest,
+        second: Contents { notes, cells },
     }
 }
 
@@ -196,15 +157,20 @@ pub fn put_joined_notes(
     requires { JoinNotesAsks s.old to h beats first second }
     ensures { Noted s.old to (lanes_joined h beats s.old first second) s.new result }
 {
-    let line = beats * h.delta;
+    let line = Line {
+        h,
+        beats,
+        tick: beats * h.delta,
+    };
     let mut rests = Rests {
         at: to,
         first,
         second,
     };
     let mut lane = seam::least_lane(s, first, second);
+    // No range: each turn goes to the next lane that has a note or a cell.
     while lane < 2048 {
-        rests = put_lane(s, h, beats, line, lane, rests);
+        rests = put_lane(s, line, lane, rests);
         lane = seam::least_lane(s, rests.first, rests.second);
     }
     rests.at

@@ -5,4 +5,6 @@ pub mod counting;
 pub mod halves;
 pub mod joined;
 pub mod lanes;
+pub mod lasts;
+pub mod lines;
 pub mod seam;

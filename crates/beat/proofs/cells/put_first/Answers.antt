@@ -11,8 +11,5 @@ returns-then-line-n c = made_early _ _ _ _ (omega arith) _ _
 pub put_cell-requires : goal.put_cell-requires
 put_cell-requires c = omega (arith, c.requires, ap length (touched c.args.n c.args.beat 0 c.args.line (omega arith) (omega arith)))
 
-pub overflow_add-result : goal.overflow_add-result
-overflow_add-result c = omega (arith, c.requires, ap length (touched c.args.n c.args.beat 0 c.args.line (omega arith) (omega arith)))
-
 pub returns : goal.returns
 returns c = made_touched _ _ _ _ (omega arith) (omega arith) c.put_cell.ensures

@@ -1,15 +1,11 @@
 -- `cuts::counting::pair_count` meets its contract.
 use mathlib.Core.Path.{ap}
 use mathlib.Core.Bool.{not}
-use native.Mathlib.Omega.{arith}
-use Rattle.cuts.proofs.JoinCounts.{not_bound, one_pair, two_few}
+use Rattle.cuts.proofs.JoinCounts.{counted_none, not_bound, one_pair}
 use Rattle.cuts.proofs.counting.pair_count.Goals as goal
 
 pub returns-then-not-bound_over : goal.returns-then-not-bound_over
-returns-then-not-bound_over c = not_bound _ _ _ _ c.bound_over.ensures (ap not c.if-not-bound_over.true) c.no_pair.ensures
-
-pub overflow_add-result : goal.overflow_add-result
-overflow_add-result c = omega (arith, two_few _ _ _ c.stands_alone.ensures c.one_if.ensures c.stands_alone-2.ensures c.one_if-2.ensures)
+returns-then-not-bound_over c = not_bound _ _ _ _ c.bound_over.ensures (ap not c.if-not-bound_over.true) (counted_none c.default.ensures)
 
 pub returns : goal.returns
-returns c = one_pair _ _ _ _ c.bound_over.ensures (ap not c.if-not-bound_over.false) c.stands_alone.ensures c.one_if.ensures c.stands_alone-2.ensures c.one_if-2.ensures
+returns c = one_pair _ _ _ _ c.bound_over.ensures (ap not c.if-not-bound_over.false) c.stands_alone.ensures c.from.ensures c.stands_alone-2.ensures c.from-2.ensures

@@ -1,9 +1,11 @@
 -- `cuts::halves::crossed` meets its contract.
+use mathlib.Core.Path.{ap}
+use Rattle.cuts.specs.Halving.{is_right}
 use Rattle.cuts.proofs.Parts.{crossed_right, crossed_left}
 use Rattle.cuts.proofs.halves.crossed.Goals as goal
 
-pub returns-then-half : goal.returns-then-half
-returns-then-half c = crossed_right _ _ _ c.if-half.true
+pub returns-in-Left : goal.returns-in-Left
+returns-in-Left c = crossed_left _ _ _ (ap is_right c.in-Left.is)
 
-pub returns : goal.returns
-returns c = crossed_left _ _ _ c.if-half.false
+pub returns-in-Right : goal.returns-in-Right
+returns-in-Right c = crossed_right _ _ _ (ap is_right c.in-Right.is)

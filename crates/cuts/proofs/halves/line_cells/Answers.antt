@@ -1,16 +1,12 @@
 -- `cuts::halves::line_cells` meets its contract.
+use mathlib.Core.Path.{ap, ◌∙◌}
 use native.Mathlib.Omega.{arith}
-use Rattle.cuts.proofs.Parts.{line-right, line-none, line_second, line_first}
+use Rattle.cuts.specs.Halving.{is_right}
+use Rattle.cuts.proofs.Parts.{line-left, line-right}
 use Rattle.cuts.proofs.halves.line_cells.Goals as goal
 
-pub returns-then-half : goal.returns-then-half
-returns-then-half c = (line-right _ _ _ c.if-half.true _, omega arith)
+pub returns-in-Left-clause-line : goal.returns-in-Left-clause-line
+returns-in-Left-clause-line c = (c.closing_cells.ensures.line.0 ∙ line-left _ _ (ap is_right c.in-Left.is), c.closing_cells.ensures.line.1)
 
-pub returns-then-left-eq0 : goal.returns-then-left-eq0
-returns-then-left-eq0 c = (line-none _ _ _ c.if-half.false _ c.if-left-eq0.true, omega arith)
-
-pub returns-then-c-eq0 : goal.returns-then-c-eq0
-returns-then-c-eq0 c = (line_second _ _ _ c.if-half.false _ c.if-left-eq0.false c.requires.0 c.cell_at-c.ensures c.if-c-eq0.true, omega arith)
-
-pub returns : goal.returns
-returns c = (line_first _ _ _ c.if-half.false _ c.if-left-eq0.false c.requires.0 c.cell_at-c.ensures c.if-c-eq0.false, omega arith)
+pub returns-in-Right-clause-line : goal.returns-in-Right-clause-line
+returns-in-Right-clause-line c = (line-right _ _ (ap is_right c.in-Right.is), omega arith)

@@ -1,15 +1,11 @@
 -- `cuts::halves::put_both` meets its contract.
-use native.Mathlib.Omega.{arith}
 use Rattle.session.proofs.Sources.{place_asks}
-use Rattle.cuts.proofs.HalfWords.{range, read, contents_asks}
+use Rattle.cuts.proofs.HalfWords.{range, read}
 use Rattle.cuts.proofs.SplitWords.{notes_asks, cells_asks, left_counts, right_counts, both-put}
 use Rattle.cuts.proofs.halves.put_both.Goals as goal
 
-pub shelf_at-requires : goal.shelf_at-requires
-shelf_at-requires c = place_asks (range c.requires.left_asks) c.requires.left_asks.take_below
-
-pub contents_at-from-requires : goal.contents_at-from-requires
-contents_at-from-requires c = contents_asks c.requires.left_asks c.shelf_at.ensures
+pub contents_of-from-requires : goal.contents_of-from-requires
+contents_of-from-requires c = (c.requires.left_asks.header, c.requires.left_asks.take_below)
 
 pub shelf_at-l-requires : goal.shelf_at-l-requires
 shelf_at-l-requires c = place_asks (range c.requires.left_asks) c.requires.left_asks.to_below
@@ -17,23 +13,17 @@ shelf_at-l-requires c = place_asks (range c.requires.left_asks) c.requires.left_
 pub shelf_at-r-requires : goal.shelf_at-r-requires
 shelf_at-r-requires c = place_asks (range c.requires.left_asks) c.requires.right_asks.to_below
 
-pub overflow_add-first : goal.overflow_add-first
-overflow_add-first c = omega (arith, (notes_asks c.requires (read c.requires.left_asks c.shelf_at.ensures c.contents_at-from.ensures) c.shelf_at-l.ensures c.shelf_at-r.ensures).placed.left-room)
-
-pub overflow_add-first-2 : goal.overflow_add-first-2
-overflow_add-first-2 c = omega (arith, (notes_asks c.requires (read c.requires.left_asks c.shelf_at.ensures c.contents_at-from.ensures) c.shelf_at-l.ensures c.shelf_at-r.ensures).placed.right-room)
-
 pub put_notes-middle-requires : goal.put_notes-middle-requires
-put_notes-middle-requires c = notes_asks c.requires (read c.requires.left_asks c.shelf_at.ensures c.contents_at-from.ensures) c.shelf_at-l.ensures c.shelf_at-r.ensures
+put_notes-middle-requires c = notes_asks c.requires (read c.requires.left_asks c.contents_of-from.ensures) c.shelf_at-l.ensures c.shelf_at-r.ensures
 
 pub put_cells-end-requires : goal.put_cells-end-requires
-put_cells-end-requires c = cells_asks c.requires (read c.requires.left_asks c.shelf_at.ensures c.contents_at-from.ensures) c.shelf_at-l.ensures c.shelf_at-r.ensures c.put_notes-middle.ensures
+put_cells-end-requires c = cells_asks c.requires (read c.requires.left_asks c.contents_of-from.ensures) c.shelf_at-l.ensures c.shelf_at-r.ensures c.put_notes-middle.ensures
 
 pub put_counts-requires : goal.put_counts-requires
-put_counts-requires c = left_counts c.requires (read c.requires.left_asks c.shelf_at.ensures c.contents_at-from.ensures) c.shelf_at-l.ensures c.shelf_at-r.ensures c.put_notes-middle.ensures c.put_cells-end.ensures
+put_counts-requires c = left_counts c.requires (read c.requires.left_asks c.contents_of-from.ensures) c.shelf_at-l.ensures c.shelf_at-r.ensures c.put_notes-middle.ensures c.put_cells-end.ensures
 
 pub put_counts-requires-2 : goal.put_counts-requires-2
-put_counts-requires-2 c = right_counts c.requires (read c.requires.left_asks c.shelf_at.ensures c.contents_at-from.ensures) c.shelf_at-l.ensures c.shelf_at-r.ensures c.put_notes-middle.ensures c.put_cells-end.ensures c.put_counts.ensures
+put_counts-requires-2 c = right_counts c.requires (read c.requires.left_asks c.contents_of-from.ensures) c.shelf_at-l.ensures c.shelf_at-r.ensures c.put_notes-middle.ensures c.put_cells-end.ensures c.put_counts.ensures
 
 pub returns : goal.returns
-returns c = both-put c.requires (read c.requires.left_asks c.shelf_at.ensures c.contents_at-from.ensures) c.shelf_at-l.ensures c.shelf_at-r.ensures c.put_notes-middle.ensures c.put_cells-end.ensures c.put_counts.ensures c.put_counts-2.ensures
+returns c = both-put c.requires (read c.requires.left_asks c.contents_of-from.ensures) c.shelf_at-l.ensures c.shelf_at-r.ensures c.put_notes-middle.ensures c.put_cells-end.ensures c.put_counts.ensures c.put_counts-2.ensures

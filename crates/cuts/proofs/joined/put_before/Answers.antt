@@ -1,16 +1,13 @@
 -- `cuts::joined::put_before` meets its contract.
 use native.Mathlib.Omega.{arith}
-use Rattle.cuts.proofs.JoinCells.{lower_asks, fewer, behind-lower, before-put}
+use Rattle.cuts.proofs.JoinCells.{lower_asks, behind-lower, before-put}
 use Rattle.cuts.proofs.joined.put_before.Goals as goal
 
 pub put_lower-rest-requires : goal.put_lower-rest-requires
 put_lower-rest-requires c = lower_asks c.requires
 
-pub overflow_sub-at : goal.overflow_sub-at
-overflow_sub-at c = omega (arith, fewer c.requires c.put_lower-rest.ensures)
+pub put-requires : goal.put-requires
+put-requires c = (omega arith, behind-lower c.requires c.put_lower-rest.ensures.put)
 
-pub put_six-requires : goal.put_six-requires
-put_six-requires c = behind-lower c.requires c.put_lower-rest.ensures
-
-pub returns : goal.returns
-returns c = before-put c.requires c.put_lower-rest.ensures c.put_six.ensures
+pub returns-clause-put : goal.returns-clause-put
+returns-clause-put c = before-put c.requires c.put_lower-rest.ensures.put c.put.ensures

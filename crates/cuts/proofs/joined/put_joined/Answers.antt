@@ -1,61 +1,27 @@
 -- `cuts::joined::put_joined` meets its contract.
-use native.Mathlib.Omega.{arith}
 use Rattle.session.proofs.Sources.{place_asks}
-use Rattle.cuts.proofs.HalfWords.{read, contents_asks}
+use Rattle.cuts.proofs.HalfWords.{read}
 use Rattle.cuts.proofs.JoinWords.{range, first_read, second_read}
-use Rattle.cuts.proofs.JoinedWords.{beats_room, notes-place, notes_asks, cells_asks, counted, frame_asks, join-put}
+use Rattle.cuts.proofs.JoinedWords.{notes_asks, cells_asks, counts_asks, join-put}
 use Rattle.cuts.proofs.joined.put_joined.Goals as goal
 
-pub beats_at-beats-requires : goal.beats_at-beats-requires
-beats_at-beats-requires c = (c.requires.asks.header, c.requires.asks.first_below)
+pub contents_of-a-requires : goal.contents_of-a-requires
+contents_of-a-requires c = (c.requires.asks.header, c.requires.asks.first_below)
 
-pub beats_at-requires : goal.beats_at-requires
-beats_at-requires c = (c.requires.asks.header, c.requires.asks.second_below)
-
-pub overflow_add-total : goal.overflow_add-total
-overflow_add-total c = omega (arith, beats_room c.requires c.beats_at-beats.ensures c.beats_at.ensures)
-
-pub shelf_at-requires : goal.shelf_at-requires
-shelf_at-requires c = place_asks (range c.requires.asks) c.requires.asks.first_below
-
-pub contents_at-a-requires : goal.contents_at-a-requires
-contents_at-a-requires c = contents_asks (first_read c.requires.asks) c.shelf_at.ensures
-
-pub shelf_at-requires-2 : goal.shelf_at-requires-2
-shelf_at-requires-2 c = place_asks (range c.requires.asks) c.requires.asks.second_below
-
-pub contents_at-b-requires : goal.contents_at-b-requires
-contents_at-b-requires c = contents_asks (second_read c.requires.asks) c.shelf_at-2.ensures
+pub contents_of-b-requires : goal.contents_of-b-requires
+contents_of-b-requires c = (c.requires.asks.header, c.requires.asks.second_below)
 
 pub shelf_at-at-requires : goal.shelf_at-at-requires
 shelf_at-at-requires c = place_asks (range c.requires.asks) c.requires.asks.to_below
 
-pub overflow_add-at : goal.overflow_add-at
-overflow_add-at c = omega (arith, notes-place c.requires (read (first_read c.requires.asks) c.shelf_at.ensures c.contents_at-a.ensures) (read (second_read c.requires.asks) c.shelf_at-2.ensures c.contents_at-b.ensures) c.shelf_at-at.ensures c.beats_at-beats.ensures)
-
 pub put_joined_notes-middle-requires : goal.put_joined_notes-middle-requires
-put_joined_notes-middle-requires c = notes_asks c.requires (read (first_read c.requires.asks) c.shelf_at.ensures c.contents_at-a.ensures) (read (second_read c.requires.asks) c.shelf_at-2.ensures c.contents_at-b.ensures) c.shelf_at-at.ensures c.beats_at-beats.ensures
+put_joined_notes-middle-requires c = notes_asks c.requires (read (first_read c.requires.asks) c.contents_of-a.ensures) (read (second_read c.requires.asks) c.contents_of-b.ensures) c.shelf_at-at.ensures c.beats_at-beats.ensures
 
 pub put_joined_cells-end-requires : goal.put_joined_cells-end-requires
-put_joined_cells-end-requires c = cells_asks c.requires (read (first_read c.requires.asks) c.shelf_at.ensures c.contents_at-a.ensures) (read (second_read c.requires.asks) c.shelf_at-2.ensures c.contents_at-b.ensures) c.shelf_at-at.ensures c.beats_at-beats.ensures c.put_joined_notes-middle.ensures
+put_joined_cells-end-requires c = cells_asks c.requires (read (first_read c.requires.asks) c.contents_of-a.ensures) (read (second_read c.requires.asks) c.contents_of-b.ensures) c.shelf_at-at.ensures c.beats_at-beats.ensures c.put_joined_notes-middle.ensures
 
-pub overflow_add-notes : goal.overflow_add-notes
-overflow_add-notes c = omega (arith, (counted c.requires (read (first_read c.requires.asks) c.shelf_at.ensures c.contents_at-a.ensures) (read (second_read c.requires.asks) c.shelf_at-2.ensures c.contents_at-b.ensures) c.shelf_at-at.ensures c.beats_at-beats.ensures c.put_joined_notes-middle.ensures c.put_joined_cells-end.ensures).notes_low)
-
-pub overflow_sub-notes : goal.overflow_sub-notes
-overflow_sub-notes c = omega (arith, (counted c.requires (read (first_read c.requires.asks) c.shelf_at.ensures c.contents_at-a.ensures) (read (second_read c.requires.asks) c.shelf_at-2.ensures c.contents_at-b.ensures) c.shelf_at-at.ensures c.beats_at-beats.ensures c.put_joined_notes-middle.ensures c.put_joined_cells-end.ensures).notes_low)
-
-pub overflow_sub-cells : goal.overflow_sub-cells
-overflow_sub-cells c = omega (arith, (counted c.requires (read (first_read c.requires.asks) c.shelf_at.ensures c.contents_at-a.ensures) (read (second_read c.requires.asks) c.shelf_at-2.ensures c.contents_at-b.ensures) c.shelf_at-at.ensures c.beats_at-beats.ensures c.put_joined_notes-middle.ensures c.put_joined_cells-end.ensures).cells_low)
-
-pub overflow_cast-notes : goal.overflow_cast-notes
-overflow_cast-notes c = omega (arith, counted c.requires (read (first_read c.requires.asks) c.shelf_at.ensures c.contents_at-a.ensures) (read (second_read c.requires.asks) c.shelf_at-2.ensures c.contents_at-b.ensures) c.shelf_at-at.ensures c.beats_at-beats.ensures c.put_joined_notes-middle.ensures c.put_joined_cells-end.ensures)
-
-pub overflow_cast-cells : goal.overflow_cast-cells
-overflow_cast-cells c = omega (arith, counted c.requires (read (first_read c.requires.asks) c.shelf_at.ensures c.contents_at-a.ensures) (read (second_read c.requires.asks) c.shelf_at-2.ensures c.contents_at-b.ensures) c.shelf_at-at.ensures c.beats_at-beats.ensures c.put_joined_notes-middle.ensures c.put_joined_cells-end.ensures)
-
-pub put_frame-requires : goal.put_frame-requires
-put_frame-requires c = frame_asks c.requires (read (first_read c.requires.asks) c.shelf_at.ensures c.contents_at-a.ensures) (read (second_read c.requires.asks) c.shelf_at-2.ensures c.contents_at-b.ensures) c.shelf_at-at.ensures c.beats_at-beats.ensures c.put_joined_notes-middle.ensures c.put_joined_cells-end.ensures
+pub put_counts-requires : goal.put_counts-requires
+put_counts-requires c = counts_asks c.requires (read (first_read c.requires.asks) c.contents_of-a.ensures) (read (second_read c.requires.asks) c.contents_of-b.ensures) c.shelf_at-at.ensures c.beats_at-beats.ensures c.put_joined_notes-middle.ensures c.put_joined_cells-end.ensures
 
 pub returns : goal.returns
-returns c = join-put c.requires (read (first_read c.requires.asks) c.shelf_at.ensures c.contents_at-a.ensures) (read (second_read c.requires.asks) c.shelf_at-2.ensures c.contents_at-b.ensures) c.shelf_at-at.ensures c.beats_at-beats.ensures c.put_joined_notes-middle.ensures c.put_joined_cells-end.ensures c.beats_at.ensures c.put_frame.ensures
+returns c = join-put c.requires (read (first_read c.requires.asks) c.contents_of-a.ensures) (read (second_read c.requires.asks) c.contents_of-b.ensures) c.shelf_at-at.ensures c.beats_at-beats.ensures c.put_joined_notes-middle.ensures c.put_joined_cells-end.ensures c.beats_at.ensures c.put_counts.ensures

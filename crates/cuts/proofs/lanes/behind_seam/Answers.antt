@@ -2,17 +2,17 @@
 use Rattle.cuts.proofs.LaneSeam.{back-apart, back_whole, back_none, back_other, back-first}
 use Rattle.cuts.proofs.lanes.behind_seam.Goals as goal
 
-pub returns-then-not-seam : goal.returns-then-not-seam
-returns-then-not-seam c = back-apart _ _ _ _ _ c.if-not-seam.true
+pub returns-in_default-clause-back : goal.returns-in_default-clause-back
+returns-in_default-clause-back c = back-apart _ _ _ _ c.in_default.is
 
-pub returns-then-not-seam-2 : goal.returns-then-not-seam-2
-returns-then-not-seam-2 c = back_whole _ _ _ _ _ c.if-not-seam.false c.if-not-seam-2.true
+pub returns-then-not-over-clause-back : goal.returns-then-not-over-clause-back
+returns-then-not-over-clause-back c = back_whole _ _ _ _ c.in-Some.is c.if-not-over.true
 
-pub returns-then-left-eq0 : goal.returns-then-left-eq0
-returns-then-left-eq0 c = back_none _ _ _ _ _ c.if-not-seam.false c.if-not-seam-2.false c.if-left-eq0.true
+pub returns-then-from-eq0-clause-back : goal.returns-then-from-eq0-clause-back
+returns-then-from-eq0-clause-back c = back_none _ _ _ _ c.in-Some.is c.if-not-over.false c.if-from-eq0.true
 
-pub returns-then-n-lane : goal.returns-then-n-lane
-returns-then-n-lane c = back_other _ _ _ _ _ c.if-not-seam.false c.if-not-seam-2.false c.if-left-eq0.false c.requires.0 c.note_at-n.ensures c.if-n-lane.true
+pub returns-then-n-lane-clause-back : goal.returns-then-n-lane-clause-back
+returns-then-n-lane-clause-back c = back_other _ _ _ _ c.in-Some.is c.if-not-over.false c.if-from-eq0.false c.args.from.fits (rw c.place.ensures at c.note_at-n.ensures) c.if-n-lane.true
 
-pub returns : goal.returns
-returns c = back-first _ _ _ _ _ c.if-not-seam.false c.if-not-seam-2.false c.if-left-eq0.false c.requires.0 c.note_at-n.ensures c.if-n-lane.false
+pub returns-clause-back : goal.returns-clause-back
+returns-clause-back c = rw c.keep.ensures.left_is (back-first _ _ _ _ c.in-Some.is c.if-not-over.false c.if-from-eq0.false c.args.from.fits (rw c.place.ensures at c.note_at-n.ensures) c.if-n-lane.false)

@@ -1,13 +1,7 @@
 -- `cuts::lanes::put_joined_notes` meets its contract. The measure is how many lanes are left.
 use native.Mathlib.Omega.{arith}
-use Rattle.cuts.proofs.LaneWalk.{line_word, walk_start, both_in, walk_next, walk_later, walk-done, lane_asks, walk-lane}
+use Rattle.cuts.proofs.LaneWalk.{walk_start, walk_next, walk_later, walk-done, lane_asks, walk-lane}
 use Rattle.cuts.proofs.lanes.put_joined_notes.Goals as goal
-
-pub overflow_mul-line : goal.overflow_mul-line
-overflow_mul-line c = omega (arith, line_word c.requires)
-
-pub least_lane-lane-requires : goal.least_lane-lane-requires
-least_lane-lane-requires c = both_in c.requires 0 (walk_start c.requires)
 
 pub loop-lane-init : goal.loop-lane-init
 loop-lane-init c = walk_next c.requires 0 (walk_start c.requires) c.least_lane-lane.ensures
@@ -15,17 +9,11 @@ loop-lane-init c = walk_next c.requires 0 (walk_start c.requires) c.least_lane-l
 pub put_lane-rests-requires : goal.put_lane-rests-requires
 put_lane-rests-requires c = lane_asks c.requires c.loop-lane.invariant c.loop-lane-test.true
 
-pub least_lane-lane-requires-in-loop-lane : goal.least_lane-lane-requires-in-loop-lane
-least_lane-lane-requires-in-loop-lane c = both_in c.requires _ (walk-lane c.requires c.loop-lane.invariant c.loop-lane-test.true c.put_lane-rests.ensures)
-
 pub loop-lane-smaller : goal.loop-lane-smaller
 loop-lane-smaller c = omega (arith, walk_later c.requires _ (walk-lane c.requires c.loop-lane.invariant c.loop-lane-test.true c.put_lane-rests.ensures) c.least_lane-lane-in-loop-lane.ensures (omega (arith, c.loop-lane-test.true)), c.loop-lane-test.true)
 
 pub loop-lane-preserved : goal.loop-lane-preserved
 loop-lane-preserved c = walk_next c.requires _ (walk-lane c.requires c.loop-lane.invariant c.loop-lane-test.true c.put_lane-rests.ensures) c.least_lane-lane-in-loop-lane.ensures
-
-pub shape_of-s : goal.shape_of-s
-shape_of-s c = c.loop-lane.invariant.walked.writes.long
 
 pub returns : goal.returns
 returns c = walk-done c.requires c.loop-lane.invariant c.loop-lane-test.false

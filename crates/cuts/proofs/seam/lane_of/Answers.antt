@@ -3,4 +3,4 @@ use Rattle.cuts.proofs.JoinSeam.{lane_is}
 use Rattle.cuts.proofs.seam.lane_of.Goals as goal
 
 pub returns : goal.returns
-returns c = lane_is _ _ c.note_lane-a.ensures c.cell_lane-b.ensures c.lesser.ensures
+returns c = lane_is _ _ c.lane.ensures c.lane-2.ensures c.min.ensures

@@ -3,4 +3,4 @@ use Rattle.cuts.proofs.JoinSeam.{least_is}
 use Rattle.cuts.proofs.seam.least_lane.Goals as goal
 
 pub returns : goal.returns
-returns c = least_is _ _ _ c.lane_of-a.ensures c.lane_of-b.ensures c.lesser.ensures
+returns c = least_is _ _ _ c.lane_of.ensures c.lane_of-2.ensures c.min.ensures

@@ -1,40 +1,22 @@
--- `cuts::seam::put_note_run` meets its contract. The measure is how many notes are left.
+-- `cuts::seam::put_note_run` meets its contract.
 use native.Mathlib.Omega.{arith}
-use Rattle.cuts.proofs.JoinSeam.{running_start, run-place, run_inside, run_shiftable, run_room, running_note, run_over, run_end}
+use Rattle.cuts.proofs.JoinSeam.{run_shiftable, run_room, running_note, run_over, run_end}
 use Rattle.cuts.proofs.seam.put_note_run.Goals as goal
 
-pub loop-rest-init : goal.loop-rest-init
-loop-rest-init c = running_start c.requires
-
-pub overflow_mul-rest : goal.overflow_mul-rest
-overflow_mul-rest c = omega (arith, run-place c.requires c.loop-rest.invariant c.loop-rest-test.true)
-
-pub overflow_sub-end : goal.overflow_sub-end
-overflow_sub-end c = omega (arith, run-place c.requires c.loop-rest.invariant c.loop-rest-test.true)
-
-pub note_at-n-requires : goal.note_at-n-requires
-note_at-n-requires c = run_inside c.requires c.loop-rest.invariant c.loop-rest-test.true
-
 pub overflow_add-n : goal.overflow_add-n
-overflow_add-n c = omega (arith, (run_shiftable c.requires c.loop-rest.invariant c.loop-rest-test.true c.note_at-n.ensures).start_word)
+overflow_add-n c = omega (arith, (run_shiftable c.args.notes.fits c.requires c.loop-rest.invariant c.loop-rest-test.true c.note_at-n.ensures).start_word)
 
 pub overflow_add-n-in-loop-rest : goal.overflow_add-n-in-loop-rest
-overflow_add-n-in-loop-rest c = omega (arith, (run_shiftable c.requires c.loop-rest.invariant c.loop-rest-test.true c.note_at-n.ensures).end_word)
+overflow_add-n-in-loop-rest c = omega (arith, (run_shiftable c.args.notes.fits c.requires c.loop-rest.invariant c.loop-rest-test.true c.note_at-n.ensures).end_word)
 
-pub put_four-requires : goal.put_four-requires
-put_four-requires c = run_room c.requires c.loop-rest.invariant c.loop-rest-test.true c.note_at-n.ensures c.if-n-lane.false
+pub put-requires : goal.put-requires
+put-requires c = (omega arith, run_room c.args.notes.fits c.requires c.loop-rest.invariant c.loop-rest-test.true c.note_at-n.ensures c.if-n-lane.false)
 
 pub loop-rest-preserved : goal.loop-rest-preserved
-loop-rest-preserved c = running_note c.requires c.loop-rest.invariant c.loop-rest-test.true c.note_at-n.ensures c.if-n-lane.false c.put_four.ensures
+loop-rest-preserved c = running_note c.args.notes.fits c.requires c.loop-rest.invariant c.loop-rest-test.true c.note_at-n.ensures c.if-n-lane.false c.put.ensures
 
-pub shape_of-s-after-loop-rest : goal.shape_of-s-after-loop-rest
-shape_of-s-after-loop-rest c = c.loop-rest.invariant.writes.long
+pub returns-clause-put : goal.returns-clause-put
+returns-clause-put c = run_end c.args.notes.fits c.requires c.loop-rest.invariant c.keep-2.ensures.left_is (omega (arith, c.loop-rest-test.false))
 
-pub returns-after-loop-rest : goal.returns-after-loop-rest
-returns-after-loop-rest c = run_end c.requires c.loop-rest.invariant c.loop-rest-test.false
-
-pub shape_of-s-then-n-lane : goal.shape_of-s-then-n-lane
-shape_of-s-then-n-lane c = c.loop-rest.invariant.writes.long
-
-pub returns-then-n-lane : goal.returns-then-n-lane
-returns-then-n-lane c = run_over c.requires c.loop-rest.invariant c.loop-rest-test.true c.note_at-n.ensures c.if-n-lane.true
+pub returns-then-n-lane-clause-put : goal.returns-then-n-lane-clause-put
+returns-then-n-lane-clause-put c = rw c.keep.ensures.left_is (run_over c.args.notes.fits c.requires c.loop-rest.invariant c.loop-rest-test.true c.note_at-n.ensures c.if-n-lane.true)

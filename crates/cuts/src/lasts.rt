@@ -1,0 +1,53 @@
+// The last notes, or the last cells, of those that stand up to a place.
+ghost use Rattle.std.specs.Prelude.{◌≡◌, ◌-◌, ◌*◌, ◌≤◌};
+
+// The last `left` of those that stand up to place `end`, of so many words each. Places and no slice: split and join write into the session
+// that they read from, which C passes as one list.
+#[derive(Clone, Copy)]
+pub struct Last<const WORDS: usize> {
+    pub end: usize,
+    pub left: usize,
+    ghost fits: { WORDS * left ≤ end },
+}
+
+// Notes have four words, and cells six.
+pub type Notes = Last<4>;
+
+pub type Cells = Last<6>;
+
+impl<const WORDS: usize> Last<WORDS> {
+    ghost use Rattle.std.specs.Prelude.{◌<◌, length};
+    ghost use Rattle.cuts.specs.Lasts.{lane_of_last};
+
+    // The place of the first.
+    pub fn place(self) -> usize
+        ensures { result ≡ self.entry.end - WORDS * self.entry.left }
+    {
+        self.end - WORDS * self.left
+    }
+
+    // The lane of the first, which is its first word: 2,048 if there is none. A number above all lanes and no Option, so that the least lane
+    // of several is a minimum.
+    pub fn lane(self, s: &[u32]) -> u32
+        requires some { 0 < WORDS }
+        requires inside { self.end ≤ length s.now }
+        ensures { result ≡ lane_of_last WORDS s.now self.entry.end self.entry.left }
+    {
+        if self.left == 0 {
+            return 2048;
+        }
+        s[self.place()]
+    }
+
+    // The last so many of them.
+    pub fn keep(self, left: usize) -> Self
+        requires { left ≤ self.left }
+        ensures end_is { result.end ≡ self.entry.end }
+        ensures left_is { result.left ≡ left }
+    {
+        Last {
+            end: self.end,
+            left,
+        }
+    }
+}
