@@ -35,8 +35,8 @@ pub fn put_all(notes: Notes, a: &mut [u64])
     requires { length a.old ≡ 2 * notes.count }
     ensures { a.new ≡ events_of notes.entry }
 {
-    for e in 0..2 * notes.count {
-        a[e] = notes.event_at(e);
+    for (e, event) in a.iter_mut().enumerate() {
+        *event = notes.event_at(e);
     }
 }
 
