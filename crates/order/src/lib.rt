@@ -57,7 +57,7 @@ fn run_end(notes: Notes, from: usize, lane: usize) -> usize
 // of a lane, so that the loop counts by itself.
 pub fn runs(notes: Notes, t: &mut Tables) -> usize
     requires { Ordered notes.words.now notes.count }
-    ensures { Split notes.entry.words.now notes.entry.count t.new.starts t.new.ends result × (result ≤ 2048) }
+    ensures { Split notes.entry.words.now notes.entry.count t.new.starts t.new.ends result × (result ≤ 2048) × (t.new.next ≡ t.old.next) × (t.new.a ≡ t.old.a) × (t.new.b ≡ t.old.b) × (t.new.places ≡ t.old.places) }
 {
     let mut i: usize = 0;
     let mut l: usize = 0;
