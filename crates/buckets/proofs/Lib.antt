@@ -1,4 +1,5 @@
 -- What the loops have done.
-pub mod Tables
+pub mod Counting
+pub mod Putting
 pub mod Outputs
-pub mod Spreading
+pub mod Plans

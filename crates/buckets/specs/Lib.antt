@@ -2,4 +2,5 @@
 pub mod Buckets
 pub mod Shorts
 pub mod Plans
-pub mod Steps
+pub mod Places
+pub mod Bases

@@ -12,4 +12,5 @@ pub mod Questions
 pub mod Table
 pub mod Shelves
 pub mod Calls
+pub mod Numbers
 pub mod Answers

@@ -7,6 +7,8 @@ ghost use Rattle.model.specs.Limits.{max_beats, lane_count, max_shelves, max_del
 ghost use Rattle.model.specs.Session.{header_words};
 ghost use Rattle.model.specs.Answers.{answer_of, header_asked};
 
+pub mod questions;
+
 // A session's header: ticks in a beat, the shortest piece kept, the number of shelves, the words in a shelf.
 #[derive(Clone, Copy)]
 pub struct Header {

@@ -1,6 +1,4 @@
 -- What the loops have done.
-pub mod Counts
-pub mod Placing
 pub mod Times
 pub mod Ranking
 pub mod Timing

@@ -3,6 +3,37 @@ ghost use Rattle.std.specs.Prelude.{◌≡◌, ◌*◌, ◌/◌, ◌<◌, ◌≤
 ghost use Rattle.model.specs.Limits.{max_beats, max_delta};
 ghost use Rattle.session.specs.Dividing.{reciprocal_of};
 
+// δ, or another number in its range, with the factor that divides by it.
+#[derive(Clone, Copy)]
+pub struct Divisor {
+    pub delta: u32,
+    // 2^42 / δ + 1.
+    pub reciprocal: u64,
+    pub ghost some: { 0 < delta },
+    pub ghost few: { delta ≤ max_delta },
+    pub ghost inverse: { reciprocal ≡ reciprocal_of delta },
+}
+
+impl Divisor {
+    pub fn new(delta: u32) -> Divisor
+        requires { (0 < delta) × (delta ≤ max_delta) }
+        ensures { result.delta ≡ delta }
+    {
+        Divisor {
+            delta,
+            reciprocal: 4398046511104 / (delta as u64) + 1,
+        }
+    }
+
+    // The beat of a tick of a take. δ itself is there for the contract: the product needs only its reciprocal.
+    pub fn beat_of(self, tick: u32) -> u32
+        requires { tick ≤ max_beats * self.delta }
+        ensures { result ≡ tick / self.delta }
+    {
+        ((tick as u64) * self.reciprocal / 4398046511104) as u32
+    }
+}
+
 // 2^42 / δ + 1.
 pub fn reciprocal(delta: u32) -> u64
     requires { 0 < delta }
@@ -16,5 +47,5 @@ pub fn beat_of(delta: u32, reciprocal: u64, tick: u32) -> u32
     requires { (0 < delta) × (delta ≤ max_delta) × (tick ≤ max_beats * delta) × (reciprocal ≡ reciprocal_of delta) }
     ensures { result ≡ tick / delta }
 {
-    ((tick as u64) * reciprocal / 4398046511104) as u32
+    Divisor { delta, reciprocal }.beat_of(tick)
 }

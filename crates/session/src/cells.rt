@@ -5,16 +5,34 @@ ghost use Rattle.model.specs.Pieces.{cells_of_note};
 ghost use Rattle.session.specs.Counting.{line_sides};
 ghost use Rattle.session.specs.Dividing.{reciprocal_of};
 
-use crate::beats;
+use crate::beats::Divisor;
 use model::Note;
+
+impl Divisor {
+    // The sides of beat lines before a tick: two for each whole beat, one more inside a beat.
+    pub fn line_sides(self, tick: u32) -> u32
+        requires { tick ≤ max_beats * self.delta }
+        ensures { result ≡ line_sides self.delta tick }
+    {
+        let beat = self.beat_of(tick);
+        2 * beat + (beat * self.delta < tick) as u32
+    }
+
+    // How many cells a note has: two at each line that it crosses, one at a line where it starts or ends.
+    pub fn cell_count(self, n: Note) -> u32
+        requires { (n.start < n.end) × (n.end ≤ max_beats * self.delta) }
+        ensures { result ≡ length (cells_of_note self.delta n) }
+    {
+        self.line_sides(n.end) - self.line_sides(n.start)
+    }
+}
 
 // The sides of beat lines before a tick: two for each whole beat, one more inside a beat.
 pub fn line_sides(delta: u32, reciprocal: u64, tick: u32) -> u32
     requires { (0 < delta) × (delta ≤ max_delta) × (tick ≤ max_beats * delta) × (reciprocal ≡ reciprocal_of delta) }
     ensures { result ≡ line_sides delta tick }
 {
-    let beat = beats::beat_of(delta, reciprocal, tick);
-    2 * beat + (beat * delta < tick) as u32
+    Divisor { delta, reciprocal }.line_sides(tick)
 }
 
 // How many cells a note has: two at each line that it crosses, one at a line where it starts or ends. With the reciprocal of δ it
@@ -23,5 +41,5 @@ pub fn cell_count_by(delta: u32, reciprocal: u64, n: Note) -> u32
     requires { (0 < delta) × (delta ≤ max_delta) × (n.start < n.end) × (n.end ≤ max_beats * delta) × (reciprocal ≡ reciprocal_of delta) }
     ensures { result ≡ length (cells_of_note delta n) }
 {
-    line_sides(delta, reciprocal, n.end) - line_sides(delta, reciprocal, n.start)
+    Divisor { delta, reciprocal }.cell_count(n)
 }

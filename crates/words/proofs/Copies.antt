@@ -1,33 +1,29 @@
--- `Copies`: what a loop that copies a run of words has done and has left to do. Assumes nothing.
-use mathlib.Core.Path.{◌≡◌}
-use mathlib.Core.List.{List}
-use Prim.Native.Nat.{ℕ, suc, ◌+◌, ◌-◌, ◌≤◌, ◌<◌}
-use native.Mathlib.Nat.{add-zero, sub-zero}
-use native.Mathlib.Omega.{arith}
-use lib.ListN.{length, get_or, set, take, drop}
-use Rattle.words.specs.Splice.{splice}
-use Rattle.words.specs.Parts.{part_cons}
-use Rattle.words.specs.Writes.{Writes, writes_start, writes-word, writes-done}
+-- Parts of a list that a library's method wrote: put back, they are a `splice`. Assumes nothing.
+use Rattle.std.specs.Prelude.{◌≡◌, List, ℕ, ◌+◌, ◌-◌, ◌≤◌, length, take, drop, replicate}
+use Rattle.std.proofs.Common.{arith, ◌∙◌}
+use Rattle.std.proofs.lemmas.List.{length-replicate}
+use borrow.Rule.Slice.PartMut.{put_mid}
+use Rattle.words.specs.Splice.{splice, splice-part}
+use Rattle.words.specs.Parts.{length_part}
 
--- of the count words of m from place from on, i are copied to s₀ from place to on, which makes s
-pub record Copies (m s₀ s : List ℕ) (from to count i : ℕ) : Type 0 where
-  pub fits : from + count ≤ length m
-  pub within : i ≤ count
-  pub writes : Writes s₀ s to (to + i) (take count (drop from m)) (take (count - i) (drop (from + i) m))
+-- n items from place b on
+pub part_written : {X : Type 0} (s new items : List X) (b n : ℕ) → b + n ≤ length s
+    → length new ≡ length (take (b + n - b) (drop b s)) → new ≡ items → put_mid b (b + n - b) s new ≡ splice s b items
+part_written s new items b n fits long is =
+    let e : b + n - b ≡ n = omega arith in
+    rw (← is) (splice-part s b (b + n) new (omega arith) fits (long ∙ rw e (length_part s b n fits)))
 
-pub copies_start : (m s : List ℕ) (from to count : ℕ) → from + count ≤ length m → Copies m s s from to count 0
-copies_start m s from to count fits =
-    let start = writes_start s to (take count (drop from m)) in
-    record { fits = fits; within = omega arith; writes = rw (add-zero to, add-zero from, sub-zero) start }
+-- a part of another list
+pub part_copied : (s m new : List ℕ) (to from k : ℕ) → to + k ≤ length s → from + k ≤ length m
+    → new ≡ take (from + k - from) (drop from m) → put_mid to (to + k - to) s new ≡ splice s to (take k (drop from m))
+part_copied s m new to from k fits there is =
+    let e : from + k - from ≡ k = omega arith in
+    let f : to + k - to ≡ k = omega arith in
+    rw (is, e) (splice-part s to (to + k) _ (omega arith) fits (rw f (length_part m from k there)))
 
-module _ {m s₀ s : List ℕ} {from to count i : ℕ} (h : Copies m s₀ s from to count i) where
-  pub copies_word : {x : ℕ} → i < count → x ≡ get_or m (from + i) 0 → Copies m s₀ (set s (to + i) x) from to count (i + 1)
-  copies_word {x} more is =
-      let e : count - i ≡ suc (count - (i + 1)) = omega arith in
-      let f : suc (from + i) ≡ from + (i + 1) = omega arith in
-      let g : to + i + 1 ≡ to + (i + 1) = omega arith in
-      let next = rw (e, part_cons m (from + i) (count - (i + 1)) (omega arith), ← is, f) at h.writes in
-      record { fits = h.fits; within = omega arith; writes = rw g at (writes-word next) }
-
-  pub copies_done : count ≤ i → s ≡ splice s₀ to (take count (drop from m))
-  copies_done all = let e : count - i ≡ 0 = omega arith in writes-done (rw e at h.writes)
+-- one word everywhere
+pub part_filled : (s new : List ℕ) (from to w : ℕ) → from ≤ to → to ≤ length s
+    → new ≡ replicate (length (take (to - from) (drop from s))) w → put_mid from (to - from) s new ≡ splice s from (replicate (to - from) w)
+part_filled s new from to w low high is =
+    let fits : from + (to - from) ≤ length s = omega arith in
+    rw (is, length_part s from (to - from) fits) (splice-part s from to _ low high (length-replicate (to - from) w))

@@ -5,7 +5,7 @@ use Rattle.std.proofs.Common.{arith, length-drop, drop-cons, length-take-le, tak
 use Rattle.words.specs.Apart.{Apart, Apart.ahead, Apart.behind}
 use Rattle.words.specs.Splice.{splice, get_or-splice-before, get_or-splice-behind, splice-parts}
 
-pub length_part : (l : List ℕ) (a n : ℕ) → a + n ≤ length l → length (take n (drop a l)) ≡ n
+pub length_part : {X : Type 0} (l : List X) (a n : ℕ) → a + n ≤ length l → length (take n (drop a l)) ≡ n
 length_part l a n fits = length-take-le n (drop a l) (omega (arith, length-drop a l))
 
 -- the first word of a part, and the rest

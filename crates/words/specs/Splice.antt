@@ -1,14 +1,15 @@
 -- `splice`: a list of words with a run of words written over it from a place on, and its laws.
 -- In order: length; runs behind one another; reading one word; writes that are apart; one write over another; the result as parts.
 -- Words that would fall behind the list's end are dropped, so most laws ask for no range. Assumes nothing.
-use Rattle.std.specs.Prelude.{◌≡◌, refl, List, [], ◌∷◌, ◌++◌, ℕ, zero, suc, ◌+◌, ◌≤◌, ◌<◌, length, get_or, set, take, drop}
+use Rattle.std.specs.Prelude.{◌≡◌, refl, List, [], ◌∷◌, ◌++◌, ℕ, zero, suc, ◌+◌, ◌≤◌, ◌<◌, length, get_or, set, take, drop, ◌-◌}
 use Rattle.std.proofs.Common.{sym, ap, ◌∙◌, ⊎_elim, append_assoc, append-nil, add-zero, add-suc, suc-add, not-suc-le-zero, eq-or-lt_of_le, arith, length-set, drop_of_length-le, get_or-set_same, get_or-set_other, set-set}
 use Rattle.std.proofs.lemmas.List.{set_comm}
 use Rattle.std.proofs.lemmas.List.Edits.{sets, sets-eq}
+use borrow.Rule.Slice.PartMut.{put_mid, Post-is}
 use Rattle.words.specs.Apart.{Apart, Apart.ahead, Apart.behind}
 
 -- l with ws in place of its words from place b on
-unfoldable pub splice : List ℕ → ℕ → List ℕ → List ℕ
+unfoldable pub splice : {X : Type 0} → List X → ℕ → List X → List X
 splice l b [] = l
 splice l b (w ∷ ws) = splice (set l b w) (suc b) ws
 
@@ -99,12 +100,12 @@ splice_over l b (u ∷ us) d ws low high =
 
 -- ---- the result as parts
 
-splice_sets : (l : List ℕ) (b : ℕ) (ws : List ℕ) → splice l b ws ≡ sets l b ws
+splice_sets : {X : Type 0} (l : List X) (b : ℕ) (ws : List X) → splice l b ws ≡ sets l b ws
 unfolding splice
 splice_sets l b [] = refl
 splice_sets l b (w ∷ ws) = splice_sets (set l b w) (suc b) ws
 
-pub splice-parts : (l : List ℕ) (b : ℕ) (ws : List ℕ) → b + length ws ≤ length l
+pub splice-parts : {X : Type 0} (l : List X) (b : ℕ) (ws : List X) → b + length ws ≤ length l
     → splice l b ws ≡ take b l ++ (ws ++ drop (b + length ws) l)
 splice-parts l b ws fits = splice_sets l b ws ∙ sets-eq ws l b fits ∙ append_assoc (take b l) ws (drop (b + length ws) l)
 
@@ -113,3 +114,10 @@ pub splice_whole : (l ws : List ℕ) → length ws ≡ length l → splice l 0 w
 splice_whole l ws e =
     let none : length l ≤ 0 + length ws = omega arith in
     splice-parts l 0 ws (omega arith) ∙ ap (◌++◌ ws) (drop_of_length-le l none) ∙ append-nil ws
+
+-- a part of a list put back as ws: those before place b, ws, and those from e on
+pub splice-part : {X : Type 0} (l : List X) (b e : ℕ) (ws : List X) → b ≤ e → e ≤ length l → length ws ≡ e - b
+    → put_mid b (e - b) l ws ≡ splice l b ws
+splice-part l b e ws low high long =
+    let behind : b + length ws ≡ e = omega arith in
+    rw (Post-is b e l low) (rw (← behind) (sym (splice-parts l b ws (omega arith))))

@@ -1,4 +1,4 @@
-// Writing into a list of words: fill with zeros, put a few words, copy a run.
+// Writing into a list: fill with zeros, put a few items, copy a run.
 #![tactic(auto)]
 
 ghost use Rattle.std.specs.Prelude.{◌≡◌, [], ◌∷◌, ◌+◌, ◌-◌, ◌≤◌, length, take, drop, replicate};
@@ -7,15 +7,21 @@ ghost use Rattle.words.specs.Splice.{splice};
 pub mod sums;
 
 // Writes zeros to the places from `from` up to, not including, `to`.
+#[tactic(auto, using(crate::proofs::Copies::part_filled))]
 pub fn zero_fill(s: &mut [u32], from: usize, to: usize)
     requires { (from ≤ to) × (to ≤ length s.old) }
     ensures { s.new ≡ splice s.old from (replicate (to - from) 0) }
 {
-    let mut i = from;
-    while i < to {
-        s[i] = 0;
-        i += 1;
-    }
+    s[from..to].fill(0);
+}
+
+// Writes N items from place `at` on.
+#[tactic(auto, using(crate::proofs::Copies::part_written))]
+pub fn put<T: Copy, const N: usize>(s: &mut [T], at: usize, items: [T; N])
+    requires { at + N ≤ length s.old }
+    ensures { s.new ≡ splice s.old at items }
+{
+    s[at..at + N].copy_from_slice(&items);
 }
 
 // Writes three words from place `at` on.
@@ -23,9 +29,7 @@ pub fn put_three(s: &mut [u32], at: usize, a: u32, b: u32, c: u32)
     requires { at + 3 ≤ length s.old }
     ensures { s.new ≡ splice s.old at (a ∷ b ∷ c ∷ []) }
 {
-    s[at] = a;
-    s[at + 1] = b;
-    s[at + 2] = c;
+    put(s, at, [a, b, c]);
 }
 
 // Writes four words from place `at` on.
@@ -33,8 +37,7 @@ pub fn put_four(s: &mut [u32], at: usize, a: u32, b: u32, c: u32, d: u32)
     requires { at + 4 ≤ length s.old }
     ensures { s.new ≡ splice s.old at (a ∷ b ∷ c ∷ d ∷ []) }
 {
-    put_three(s, at, a, b, c);
-    s[at + 3] = d;
+    put(s, at, [a, b, c, d]);
 }
 
 // Writes six words from place `at` on.
@@ -42,19 +45,14 @@ pub fn put_six(s: &mut [u32], at: usize, a: u32, b: u32, c: u32, d: u32, e: u32,
     requires { at + 6 ≤ length s.old }
     ensures { s.new ≡ splice s.old at (a ∷ b ∷ c ∷ d ∷ e ∷ f ∷ []) }
 {
-    put_three(s, at, a, b, c);
-    put_three(s, at + 3, d, e, f);
+    put(s, at, [a, b, c, d, e, f]);
 }
 
 // Copies `count` words from place `from` of another list to place `to`.
+#[tactic(auto, using(crate::proofs::Copies::part_copied))]
 pub fn copy_from(s: &mut [u32], to: usize, source: &[u32], from: usize, count: usize)
     requires { (to + count ≤ length s.old) × (from + count ≤ length source.now) }
     ensures { s.new ≡ splice s.old to (take count (drop from source.now)) }
 {
-    let mut k = 0;
-    while k < count {
-        let word = source[from + k];
-        s[to + k] = word;
-        k += 1;
-    }
+    s[to..to + count].copy_from_slice(&source[from..from + count]);
 }
