@@ -1,5 +1,5 @@
 -- A window of a track: the bytes of some of its events, one after the other. Assumes nothing.
-use Rattle.std.specs.Prelude.{List, [], ◌∷◌, ◌++◌, ℕ, ◌*◌, ◌-◌, ◌/◌, ◌≤◌, length}
+use Rattle.std.specs.Prelude.{List, [], ◌∷◌, ◌++◌, ℕ, ◌-◌, ◌/◌, ◌≤◌, length}
 use Rattle.midi.specs.Numbers.{quantity_bytes}
 use Rattle.midi.specs.Writing.{message_bytes}
 use Rattle.track.specs.Keys.{tick_of, event_of}
