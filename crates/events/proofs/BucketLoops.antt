@@ -6,15 +6,15 @@ use Prim.Native.Nat.{ℕ, zero, suc, ◌+◌, ◌-◌, ◌*◌, ◌/◌, ◌%◌
 use native.Mathlib.Nat.{add-zero, mul-le-mul}
 use native.Mathlib.Omega.{arith}
 use lib.Dec.{ltb}
-use lib.ListN.{length, get_or, take, length-append}
-use lib.Seq.{get_or-take, ext_get_or, length-take-le}
+use lib.ListN.{length, get_or, length-append}
+use lib.Seq.{ext_get_or}
 use Rattle.words.specs.Splice.{splice, splice-append-last, length-splice, get_or-splice-before}
 use Rattle.midi.specs.Numbers.{quantity_bytes, word32}
 use Rattle.midi.specs.Writing.{message_bytes}
 use Rattle.track.specs.Keys.{tick_of, event_of}
 use Rattle.buckets.specs.Buckets.{base}
 use Rattle.events.specs.Tracks.{Timed}
-use Rattle.events.specs.Windows.{window_bytes, last_tick, longest, WindowAsks}
+use Rattle.events.specs.Windows.{window_bytes, last_tick, longest}
 use Rattle.events.specs.Emitting.{events_from, start_of, events_of, span, events_to, Bounds, Noted, Ahead, BucketAhead}
 use Rattle.events.proofs.WindowLoops.{timed_window, timed_behind}
 use Rattle.events.proofs.Storing.{word_same}
@@ -122,25 +122,19 @@ module _ {width : ℕ} {ends : List ℕ} (b : Bounds width ends) (out : List ℕ
 pub base_small : (width v : ℕ) → width ≤ 8192 → v < 2048 → v * width ≤ 16777216
 base_small width v h l = let e : v ≤ 2048 = omega arith in mul-le-mul e h
 
--- a table into which the events of a bucket were read
-module _ {width v : ℕ} {ends out starts ticks : List ℕ} (b : Bounds width ends) (h : BucketAhead width v ends out starts ticks) (a : List ℕ) {from : ℕ} (s : from ≡ start_of ends v)
-    (long : 2048 ≤ length a) (r : (i : ℕ) → i < get_or ends v 0 - from → get_or a i 0 ≡ base width v + word32 out (22 + 4 * (from + i))) where
-  fits : get_or ends v 0 - from ≤ length a
-  fits = omega (arith, b.few v h.early)
+-- the events of a bucket, read into a table
+module _ {width v : ℕ} {ends out starts ticks : List ℕ} (h : BucketAhead width v ends out starts ticks) {from : ℕ} (s : from ≡ start_of ends v) {ks : List ℕ}
+    (r : ks ≡ events_from (base width v) out from (get_or ends v 0 - from)) where
+  read : ks ≡ events_of width ends out v
+  read = rw (← s) r
 
-  read : take (get_or ends v 0 - from) a ≡ events_of width ends out v
-  read =
-      let m : ℕ = get_or ends v 0 - from in
-      rw (← s)
-      (events_of_each (base width v) out from m (take m a) (length-take-le m a fits) (λ i l. get_or-take m a i 0 l ∙ r i l))
+  pub read_timed : Timed longest (get_or ticks v 0) ks
+  read_timed = rw read h.timed
 
-  pub read_window : WindowAsks a (get_or ends v 0 - from) (get_or ticks v 0)
-  read_window = record { inside = fits; timed = rw read h.timed }
-
-  pub read_room : get_or starts v 0 + length (window_bytes (get_or ticks v 0) (take (get_or ends v 0 - from) a)) ≤ length out
+  pub read_room : get_or starts v 0 + length (window_bytes (get_or ticks v 0) ks) ≤ length out
   read_room = rw read h.room
 
-  pub read_bytes : {out' : List ℕ} → out' ≡ splice out (get_or starts v 0) (window_bytes (get_or ticks v 0) (take (get_or ends v 0 - from) a))
+  pub read_bytes : {out' : List ℕ} → out' ≡ splice out (get_or starts v 0) (window_bytes (get_or ticks v 0) ks)
       → out' ≡ splice out (get_or starts v 0) (window_bytes (get_or ticks v 0) (events_of width ends out v))
   read_bytes g = rw read at g
 

@@ -4,8 +4,9 @@ use mathlib.Core.Logic.{⊎_elim}
 use mathlib.Core.List.{List, [], ◌∷◌, ◌++◌, append-nil}
 use Prim.Native.Nat.{ℕ, suc, ◌+◌, ◌-◌, ◌*◌, ◌≤◌, ◌<◌}
 use native.Mathlib.Omega.{arith}
-use lib.ListN.{length, get_or, take, length-append}
-use lib.Seq.{ext_get_or, get_or-take, length-take-le}
+use lib.ListN.{length, get_or, length-append}
+use lib.Seq.{ext_get_or}
+use Rattle.std.proofs.Common.{Option, None, Some}
 use Rattle.words.specs.Splice.{splice, splice-append, length-splice, get_or-splice-before, get_or-splice-behind, get_or-splice-inside}
 use Rattle.radix.specs.Sort.{sort, inserts, length-sort, lt_or_ge}
 use Rattle.radix.specs.Ranks.{All}
@@ -16,7 +17,7 @@ use Rattle.midi.proofs.Lengths.{message_length, groups_near}
 use Rattle.track.specs.Keys.{tick_of, event_of}
 use Rattle.buckets.specs.Buckets.{bucket, base, Beside}
 use Rattle.events.specs.Tracks.{Timed}
-use Rattle.events.specs.Windows.{window_bytes, last_tick, longest, WindowAsks}
+use Rattle.events.specs.Windows.{window_bytes, last_tick, longest}
 use Rattle.events.specs.Emitting.{events_from, start_of, events_of, events_to, Noted, Ahead}
 use Rattle.events.specs.Bucketing.{events_in, BucketAsks, sorted_to, BucketsAsk, BucketsSorted}
 use Rattle.events.specs.Tight.{OneBucket, bytes_in, TightBucket, TightPut}
@@ -55,43 +56,45 @@ timed_first : {end t : ℕ} (ks : List ℕ) → Timed end t ks → 0 < length ks
 timed_first [] s h = absurd (omega arith)
 timed_first (k ∷ ks) (Timed.next h s) l = (h, timed_within s)
 
-module _ {a : List ℕ} {m tick : ℕ} (w : WindowAsks a m tick) (s : 0 < m) where
-  first-at : get_or (take m a) 0 0 ≡ get_or a 0 0
-  first-at = get_or-take m a 0 0 s
+module _ {ks : List ℕ} {tick : ℕ} (t : Timed longest tick ks) (s : 0 < length ks) where
+  pub first-tick : (tick ≤ tick_of (get_or ks 0 0)) × (tick_of (get_or ks 0 0) ≤ longest)
+  first-tick = timed_first ks t s
 
-  pub first-tick : (tick ≤ tick_of (get_or a 0 0)) × (tick_of (get_or a 0 0) ≤ longest)
-  first-tick = rw first-at at (timed_first (take m a) w.timed (omega (arith, length-take-le m a w.inside)))
-
-  pub times_short_lem : {width : ℕ} → OneBucket width (take m a) → width ≤ 128 → tick_of (get_or a 0 0) - tick < 128 → length (window_bytes tick (take m a)) ≤ 4 * m
-  times_short_lem b l h = omega (arith, first_time tick (take m a) b l (rw first-at h), length-take-le m a w.inside)
+  pub times_short_lem : {width : ℕ} → OneBucket width ks → width ≤ 128 → tick_of (get_or ks 0 0) - tick < 128 → length (window_bytes tick ks) ≤ 4 * length ks
+  times_short_lem b l h = first_time tick ks b l h
 
 -- ---- one bucket
 
 module _ {width v from upto tick : ℕ} {out : List ℕ} (s : BucketAsks width v from upto (22 + 4 * from) tick out) where
   -- no events
-  pub tight_empty : upto ≤ from → TightBucket width v from upto tick out out (22 + 4 * from) tick
+  pub tight_empty : upto ≤ from → TightBucket width v from upto tick out out (Some tick)
   unfolding events_from sort inserts window_bytes last_tick splice
   tight_empty h =
       let e : upto - from ≡ 0 = omega arith in
-      record { reached = rw e (omega arith); ended = rw e; tight = λ l. rw e; loose = λ l. refl }
+      record { tight = λ t p. rw e (omega (arith, s.holds.order), cc, refl); loose = λ p. absurd (cc) }
 
   -- a table of them in order
-  module _ (a : List ℕ) (e : take (upto - from) a ≡ sort (events_in width v from upto out)) where
+  module _ (ks : List ℕ) (e : ks ≡ sort (events_in width v from upto out)) where
     -- they are of one bucket
-    pub tight_one : OneBucket width (take (upto - from) a)
+    pub tight_one : OneBucket width ks
     tight_one = record { some = s.holds.some; v = v; own = rw e (all-sort (λ k. bucket width k ≡ v) (events_in width v from upto out) s.holds.own) }
 
-    pub tight_room : length (window_bytes tick (take (upto - from) a)) ≤ 4 * (upto - from) → 22 + 4 * from + length (window_bytes tick (take (upto - from) a)) ≤ length out
+    pub tight_room : length (window_bytes tick ks) ≤ 4 * (upto - from) → 22 + 4 * from + length (window_bytes tick ks) ≤ length out
     tight_room h = omega (arith, s.holds.inside, s.holds.order)
 
-    -- and how far their bytes come
-    module _ {place last : ℕ} (p : place ≡ 22 + 4 * from + length (window_bytes tick (take (upto - from) a))) (q : last ≡ last_tick tick (take (upto - from) a)) where
-      pub tight_not : 22 + 4 * upto < place → TightBucket width v from upto tick out out place last
-      tight_not h = record { reached = rw e at p; ended = rw e at q; tight = λ l. absurd (omega arith); loose = λ l. refl }
+    pub tight_not : 22 + 4 * upto < 22 + 4 * from + length (window_bytes tick ks) → TightBucket width v from upto tick out out None
+    tight_not h = record { tight = λ t p. absurd (cc); loose = λ p. (rw e at h, refl) }
 
-      pub tight_written : {after : List ℕ} → length (window_bytes tick (take (upto - from) a)) ≤ 4 * (upto - from)
-          → after ≡ splice out (22 + 4 * from) (window_bytes tick (take (upto - from) a)) → TightBucket width v from upto tick out after place last
-      tight_written h g = record { reached = rw e at p; ended = rw e at q; tight = λ l. rw e at g; loose = λ l. absurd (omega (arith, s.holds.order)) }
+    pub tight_written : {after : List ℕ} {last : ℕ} → last ≡ last_tick tick ks → length (window_bytes tick ks) ≤ 4 * (upto - from)
+        → after ≡ splice out (22 + 4 * from) (window_bytes tick ks) → TightBucket width v from upto tick out after (Some last)
+    tight_written {after} {last} q h g =
+        record {
+          tight = λ t p.
+              let n : 22 + 4 * from + length (window_bytes tick ks) ≤ 22 + 4 * upto = omega (arith, s.holds.order) in
+              let l : t ≡ last_tick tick ks = cc in
+              (rw e at n, rw e at l, rw e at g);
+          loose = λ p. absurd (cc);
+        }
 
 -- ---- the loop
 
@@ -200,7 +203,7 @@ module _ {width : ℕ} {ends out₀ : List ℕ} (s : BucketsAsk width 0 22 0 end
     pub tight_bucket : BucketAsks width v from (get_or ends v 0) (22 + 4 * from) tick out
     tight_bucket = rw e at (bucket_asks tight_asks (sorting_start tight_asks [] [] p) t.early)
 
-    module _ {out' : List ℕ} {place last : ℕ} (r : TightBucket width v from (get_or ends v 0) tick out out' place last) where
+    module _ {out' : List ℕ} {r : Option ℕ} (b : TightBucket width v from (get_or ends v 0) tick out out' r) where
       abbrev own : List ℕ
       own = sort (events_of width ends out₀ v)
 
@@ -214,11 +217,11 @@ module _ {width : ℕ} {ends out₀ : List ℕ} (s : BucketsAsk width 0 22 0 end
       next_bytes = ap (window_bytes 0) next_done ∙ window_append 0 done own
 
       -- an event has at least four bytes
-      next_place : place ≤ 22 + 4 * get_or ends v 0 → 22 + 4 * get_or ends v 0 ≡ 22 + length (window_bytes 0 (sorted_to width ends out₀ 0 (suc v)))
+      next_place : 22 + 4 * from + length (bytes_in width v from (get_or ends v 0) tick out) ≤ 22 + 4 * get_or ends v 0
+          → 22 + 4 * get_or ends v 0 ≡ 22 + length (window_bytes 0 (sorted_to width ends out₀ 0 (suc v)))
       next_place h =
           omega (
             arith,
-            r.reached,
             t.reached,
             ap length own-bytes,
             ap length next_bytes,
@@ -229,8 +232,9 @@ module _ {width : ℕ} {ends out₀ : List ℕ} (s : BucketsAsk width 0 22 0 end
             s.bounds.rising v t.early,
           )
 
-      pub tight_more : v < 2047 → place ≤ 22 + 4 * get_or ends v 0 → TightPut width ends out₀ out' (v + 1) (22 + 4 * get_or ends v 0) last
-      tight_more l h =
+      pub tight_more : {last : ℕ} → v < 2047 → r ≡ Some last → TightPut width ends out₀ out' (v + 1) (22 + 4 * get_or ends v 0) last
+      tight_more {last} l q =
+          let f = b.tight last q in
           let w : List ℕ = window_bytes (last_tick 0 done) own in
           let j : v + 1 ≡ suc v = omega arith in
           let k : 22 + 4 * from ≡ 22 + length bytes = sym e ∙ t.reached in
@@ -238,18 +242,18 @@ module _ {width : ℕ} {ends out₀ : List ℕ} (s : BucketsAsk width 0 22 0 end
           (record {
             early = omega arith;
             bytes =
-                r.tight h ∙ ap (splice out (22 + 4 * from)) own-bytes ∙ ap (λ (n : ℕ). splice out n w) k ∙ ap (λ (x : List ℕ). splice x (22 + length bytes) w) t.bytes
+                f.2 ∙ ap (splice out (22 + 4 * from)) own-bytes ∙ ap (λ (n : ℕ). splice out n w) k ∙ ap (λ (x : List ℕ). splice x (22 + length bytes) w) t.bytes
                 ∙ sym (splice-append out₀ 22 bytes w) ∙ ap (splice out₀ 22) (sym next_bytes);
-            reached = next_place h;
+            reached = next_place f.0;
             tight = ap (λ (n : ℕ). 22 + 4 * n) (sym (start_next ends v));
             ended =
-                r.ended ∙ rw p (ap₂ (λ (n : ℕ) (ks : List ℕ). last_tick n (sort ks)) t.ended (left-events v (omega arith) t.early))
+                f.1 ∙ rw p (ap₂ (λ (n : ℕ) (ks : List ℕ). last_tick n (sort ks)) t.ended (left-events v (omega arith) t.early))
                 ∙ sym (last-append 0 done own) ∙ ap (last_tick 0) (sym next_done);
           })
 
       -- the bytes of this bucket are longer than its events
-      pub tight_over : 22 + 4 * get_or ends v 0 < place → TightPut width ends out₀ out' v (22 + 4 * from) tick
-      tight_over h = rw (r.loose h, ← e) t
+      pub tight_over : r ≡ None → TightPut width ends out₀ out' v (22 + 4 * from) tick
+      tight_over q = rw ((b.loose q).1, ← e) t
 
   -- ---- the buckets left, put in order
 

@@ -7,13 +7,14 @@ use lib.ListN.{length, take, length-append}
 use lib.Seq.{length-take-le}
 use Rattle.words.specs.Splice.{splice, splice-append, length-splice}
 use Rattle.order.specs.Queues.{Queues, merged}
-use Rattle.order.specs.Events.{events}
+use Rattle.order.specs.declared.notes.Notes.{Notes}
+use Rattle.order.specs.Notes.{events_of}
 use Rattle.order.specs.Windows.{From, from_small}
 use Rattle.order.specs.Taking.{Width, Taken}
 use Rattle.midi.specs.Numbers.{quantity_bytes}
 use Rattle.midi.specs.Writing.{end_of_track}
-use Rattle.events.specs.Tracks.{track_left, Timed, TrackAsks}
-use Rattle.events.specs.Windows.{window_bytes, last_tick, longest, WindowAsks}
+use Rattle.events.specs.Tracks.{track_left, events_left, Timed, TrackAsks}
+use Rattle.events.specs.Windows.{window_bytes, last_tick, longest}
 use Rattle.events.proofs.EventLoops.{timed_within, left_over, over_length}
 use Rattle.events.proofs.WindowLoops.{window_left, timed_window, timed_behind}
 
@@ -56,8 +57,8 @@ module _ {keys ends : List ℕ} {n end : ℕ} {pos : List ℕ} {left from width 
     size : length ks ≡ m
     size = length-take-le m a (omega (arith, w.few))
 
-    pub left_window : end ≤ longest → WindowAsks a m tick
-    left_window h = record { inside = omega (arith, w.few); timed = timed_window ks (merged keys pos' ends n) parted h }
+    pub left_window : end ≤ longest → Timed longest tick (take m a)
+    left_window h = timed_window ks (merged keys pos' ends n) parted h
 
     pub left_fewer : left ≡ m + length (merged keys pos' ends n)
     left_fewer = omega (arith, l.count, ap length w.first, length-append ks (merged keys pos' ends n), size)
@@ -131,8 +132,8 @@ module _ {keys ends : List ℕ} {n end : ℕ} {out₀ : List ℕ} {start : ℕ} 
 
 -- ---- the beginning
 
-module _ {s : List ℕ} {count n : ℕ} {pos ends to a b places : List ℕ} {end : ℕ} (w : TrackAsks s count n pos ends to a b places end) where
-  left-start : (width : ℕ) → Width width → Left (events s 0 count) ends n end pos (2 * count) 0 width 0
+module _ {notes : Notes} {n : ℕ} {pos ends : List ℕ} {end : ℕ} (w : TrackAsks notes n pos ends end) where
+  left-start : (width : ℕ) → Width width → Left (events_of notes) ends n end pos (2 * notes.count) 0 width 0
   left-start width v =
       record {
         queues = w.queues;
@@ -144,9 +145,9 @@ module _ {s : List ℕ} {count n : ℕ} {pos ends to a b places : List ℕ} {end
       }
 
   pub counting_start : (at width : ℕ) → Width width
-      → Counting (events s 0 count) ends n end (at + length (track_left end 0 (merged (events s 0 count) pos ends n))) pos (2 * count) 0 width at 0
+      → Counting (events_of notes) ends n end (at + length (track_left end 0 (events_left notes pos ends n))) pos (2 * notes.count) 0 width at 0
   counting_start at width v = record { ahead = left-start width v; all = refl }
 
   pub putting_start : (out : List ℕ) (at width : ℕ) → Width width
-      → Putting (events s 0 count) ends n end out at (track_left end 0 (merged (events s 0 count) pos ends n)) pos (2 * count) 0 width at 0 out
+      → Putting (events_of notes) ends n end out at (track_left end 0 (events_left notes pos ends n)) pos (2 * notes.count) 0 width at 0 out
   putting_start out at width v = record { counting = counting_start at width v; long = refl; same = refl }

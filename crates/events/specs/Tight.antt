@@ -1,5 +1,5 @@
 -- The first buckets of events that stand in an output, their bytes written over them where each event takes four bytes. Assumes nothing.
-use Rattle.std.specs.Prelude.{◌≡◌, List, ℕ, ◌+◌, ◌*◌, ◌≤◌, ◌<◌, length}
+use Rattle.std.specs.Prelude.{◌≡◌, Option, None, Some, List, ℕ, ◌+◌, ◌*◌, ◌≤◌, ◌<◌, length}
 use Rattle.words.specs.Splice.{splice}
 use Rattle.radix.specs.Sort.{sort}
 use Rattle.radix.specs.Ranks.{All}
@@ -18,12 +18,12 @@ pub record OneBucket (width : ℕ) (ks : List ℕ) : Type 0 where
 abbrev pub bytes_in : ℕ → ℕ → ℕ → ℕ → ℕ → List ℕ → List ℕ
 bytes_in width v from upto tick out = window_bytes tick (sort (events_in width v from upto out))
 
--- How far the bytes of bucket v come. They are written over its events if they are no longer; if they are, all is as it was.
-pub record TightBucket (width v from upto tick : ℕ) (out after : List ℕ) (place last : ℕ) : Type 0 where
-  pub reached : place ≡ 22 + 4 * from + length (bytes_in width v from upto tick out)
-  pub ended : last ≡ last_tick tick (sort (events_in width v from upto out))
-  pub tight : place ≤ 22 + 4 * upto → after ≡ splice out (22 + 4 * from) (bytes_in width v from upto tick out)
-  pub loose : 22 + 4 * upto < place → after ≡ out
+-- The bytes of bucket v are written over its events if they are no longer, and the last of these has the tick that is returned; if they are longer, all
+-- is as it was.
+pub record TightBucket (width v from upto tick : ℕ) (out after : List ℕ) (last : Option ℕ) : Type 0 where
+  pub tight : (t : ℕ) → last ≡ Some t → (22 + 4 * from + length (bytes_in width v from upto tick out) ≤ 22 + 4 * upto) × (t ≡ last_tick tick (sort (events_in width v from upto out)))
+      × (after ≡ splice out (22 + 4 * from) (bytes_in width v from upto tick out))
+  pub loose : last ≡ None → (22 + 4 * upto < 22 + 4 * from + length (bytes_in width v from upto tick out)) × (after ≡ out)
 
 -- The bytes of the buckets before bucket v are written, up to place `at`, where its events stand; the last event before it is at `tick`.
 pub record TightPut (width : ℕ) (ends out after : List ℕ) (v at tick : ℕ) : Type 0 where

@@ -1,6 +1,7 @@
 -- The track of a take's notes as its code writes it, event by event; events are numbers. Assumes nothing.
 use Rattle.std.specs.Prelude.{◌≡◌, List, [], ◌∷◌, map, ℕ, ◌+◌, ◌*◌, ◌/◌, ◌≤◌, ◌<◌, min, length}
-use Rattle.order.specs.Events.{events}
+use Rattle.order.specs.declared.notes.Notes.{Notes}
+use Rattle.order.specs.Notes.{events_of}
 use Rattle.order.specs.Queues.{Queues, merged}
 use Rattle.midi.specs.Writing.{event_bytes}
 use Rattle.track.specs.Keys.{tick_of, event_of}
@@ -19,20 +20,15 @@ pub data Timed (end : ℕ) : ℕ → List ℕ → Type 0 where
   over : {last : ℕ} → last ≤ end → Timed end last []
   next : {last k : ℕ} {ks : List ℕ} → last ≤ tick_of k → Timed end (tick_of k) ks → Timed end last (k ∷ ks)
 
--- The events that are left in the lanes of `count` notes.
-abbrev pub events_left : List ℕ → ℕ → List ℕ → List ℕ → ℕ → List ℕ
-events_left s count pos ends n = merged (events s 0 count) pos ends n
+-- The events of some notes that are left in n lanes.
+abbrev pub events_left : Notes → List ℕ → List ℕ → ℕ → List ℕ
+events_left notes pos ends n = merged (events_of notes) pos ends n
 
--- What writing the events of n lanes asks: the lanes' events, all those of the notes, up to the end of track; and room in the tables.
-pub record TrackAsks (s : List ℕ) (count n : ℕ) (pos ends to a b places : List ℕ) (end : ℕ) : Type 0 where
-  pub inside : 4 * count ≤ length s
-  pub few : count < 1048576
-  pub queues : Queues (events s 0 count) pos ends n
-  pub all : length (events_left s count pos ends n) ≡ 2 * count
-  pub timed : Timed end 0 (events_left s count pos ends n)
+-- What writing the events of n lanes asks: the lanes' events, all those of the notes, up to the end of track.
+pub record TrackAsks (notes : Notes) (n : ℕ) (pos ends : List ℕ) (end : ℕ) : Type 0 where
+  pub few : notes.count < 1048576
+  pub queues : Queues (events_of notes) pos ends n
+  pub all : length (events_left notes pos ends n) ≡ 2 * notes.count
+  pub timed : Timed end 0 (events_left notes pos ends n)
   pub short : end < 268435456
   pub lanes : n ≤ 2048
-  pub room : n ≤ length to
-  pub here : 2048 ≤ length a
-  pub there : 2048 ≤ length b
-  pub table : 2048 ≤ length places

@@ -1,5 +1,5 @@
 -- A window of a track: the bytes of some of its events, one after the other. Assumes nothing.
-use Rattle.std.specs.Prelude.{List, [], ◌∷◌, ◌++◌, ℕ, ◌*◌, ◌-◌, ◌≤◌, length, take}
+use Rattle.std.specs.Prelude.{List, [], ◌∷◌, ◌++◌, ℕ, ◌-◌, ◌/◌, ◌≤◌, length}
 use Rattle.midi.specs.Numbers.{quantity_bytes}
 use Rattle.midi.specs.Writing.{message_bytes}
 use Rattle.track.specs.Keys.{tick_of, event_of}
@@ -19,15 +19,9 @@ last_tick last (k ∷ ks) = last_tick (tick_of k) ks
 abbrev pub longest : ℕ
 longest = 268435455
 
--- The first m events of a list come one after the other, behind one at `tick`.
-pub record WindowAsks (a : List ℕ) (m tick : ℕ) : Type 0 where
-  pub inside : m ≤ length a
-  pub timed : Timed longest tick (take m a)
-
--- A table that begins with all events of `count` notes, one after the other up to `end`.
-pub record TableAsks (a : List ℕ) (count end : ℕ) : Type 0 where
-  pub inside : 2 * count ≤ length a
-  pub timed : Timed end 0 (take (2 * count) a)
-  pub few : count ≤ 1024
+-- All events of at most 1,024 notes, one after the other up to `end`.
+pub record TableAsks (ks : List ℕ) (end : ℕ) : Type 0 where
+  pub timed : Timed end 0 ks
+  pub few : length ks ≤ 2048
   pub short : end ≤ longest
-  pub bound : length (track_left end 0 (take (2 * count) a)) ≤ track_most count end
+  pub bound : length (track_left end 0 ks) ≤ track_most (length ks / 2) end

@@ -1,12 +1,14 @@
 // The bytes of the first buckets of an output, written over their events as long as each event takes four bytes: a bucket's bytes then lie just
 // where its events stand, so that its events are read only once and need not be written back in order.
-ghost use Rattle.std.specs.Prelude.{◌≡◌, true, ◌+◌, ◌*◌, ◌≤◌, ◌<◌, length, take};
-ghost use Rattle.events.specs.Windows.{window_bytes, WindowAsks};
-ghost use Rattle.events.specs.Bucketing.{SortRoom, BucketAsks, BucketsAsk};
+ghost use Rattle.std.specs.Prelude.{◌≡◌, Option, true, ◌+◌, ◌*◌, ◌≤◌, ◌<◌, length};
+ghost use Rattle.events.specs.Tracks.{Timed};
+ghost use Rattle.events.specs.Windows.{window_bytes, longest};
+ghost use Rattle.events.specs.Emitting.{Kept};
+ghost use Rattle.events.specs.Bucketing.{BucketAsks, BucketsAsk};
 ghost use Rattle.events.specs.Tight.{OneBucket, TightBucket, TightPut};
 
-use crate::windows::Reached;
 use crate::{bucketing, windows};
+use order::tables::Tables;
 
 // Where writing has come to: the first bucket whose events still stand in the output, the place for its bytes and the tick of the event before it.
 #[derive(Drop)]
@@ -18,82 +20,87 @@ pub struct Front {
 
 // Is each time of a bucket's events in order surely of one group? Within a bucket of at most 128 ticks it is; so only the time up to the first event
 // is looked at.
-fn times_short(a: &[u64], m: usize, width: u32, tick: u32) -> bool
-    requires { WindowAsks a.now m tick × (0 < m) × OneBucket width (take m a.now) }
-    ensures { result ≡ true → length (window_bytes tick (take m a.now)) ≤ 4 * m }
+fn times_short(events: &[u64], width: u32, tick: u32) -> bool
+    requires { Timed longest tick events.now × (0 < length events.now) × OneBucket width events.now }
+    ensures { result ≡ true → length (window_bytes tick events.now) ≤ 4 * length events.now }
 {
     if 128 < width {
         return false;
     }
-    windows::tick_of(a[0]) - tick < 128
+    windows::tick_of(events[0]) - tick < 128
 }
 
-// Writes the bytes of bucket v over its events, if they are no longer than these: else they would reach into the next bucket. Returns how far they
-// come.
+// Writes the bytes of bucket v over its events, if they are no longer than these: else they would reach into the next bucket. Returns the tick of
+// the last event then.
 fn put_tight_bucket(
     out: &mut [u8],
     width: u32,
     v: usize,
     from: usize,
     upto: usize,
-    a: &mut [u64],
-    b: &mut [u64],
-    places: &mut [u16],
+    a: &mut [u64; 2048],
+    b: &mut [u64; 2048],
+    places: &mut [u16; 2048],
     tick: u32,
-) -> Reached
-    requires { BucketAsks width v from upto (22 + 4 * from) tick out.old × SortRoom a.old b.old places.old }
-    ensures { TightBucket width v from upto tick out.old out.new result.at result.tick }
+) -> Option<u32>
+    requires { BucketAsks width v from upto (22 + 4 * from) tick out.old }
+    ensures put { TightBucket width v from upto tick out.old out.new result }
+    ensures long { (length a.new ≡ 2048) × (length b.new ≡ 2048) × (length places.new ≡ 2048) }
 {
     let at = 22 + 4 * from;
     let end = 22 + 4 * upto;
     if upto <= from {
-        return Reached { at: at, tick: tick };
+        return Some(tick);
     }
-    let m = upto - from;
-    bucketing::read_sorted(out, width, v, from, upto, a, b, places);
-    if !times_short(a, m, width, tick) {
-        let reached = windows::window_length(a, m, at, tick);
+    let events = &mut a[..upto - from];
+    bucketing::read_sorted(out, width, v, from, events, b, places);
+    if !times_short(events, width, tick) {
+        let reached = windows::window_length(events, at, tick);
         if end < reached.at {
-            return reached;
+            return None;
         }
     }
-    windows::put_window(out, at, tick, a, m)
+    Some(windows::put_window(out, at, tick, events).tick)
 }
 
 // Writes the bytes of the first buckets over their events, as long as each event takes four bytes. Returns where it has come to. The last bucket is
 // left in any case, so that there is always one whose place is noted for those who go on.
-pub fn put_tight(
-    out: &mut [u8],
-    width: u32,
-    ends: &[u32],
-    a: &mut [u64],
-    b: &mut [u64],
-    places: &mut [u16],
-) -> Front
-    requires { BucketsAsk width 0 22 0 ends.now out.old × (2048 ≤ length ends.now) × SortRoom a.old b.old places.old }
-    ensures { TightPut width ends.now out.old out.new result.bucket result.at result.tick }
+pub fn put_tight(out: &mut [u8], width: u32, tables: &mut Tables) -> Front
+    requires { BucketsAsk width 0 22 0 tables.old.ends out.old }
+    ensures put { TightPut width tables.old.ends out.old out.new result.bucket result.at result.tick }
+    ensures kept { Kept tables.old tables.new }
 {
-    let all = ends[2047] as usize;
+    let all = tables.ends[2047];
     let mut from: usize = 0;
     let mut tick: u32 = 0;
-    let mut v: usize = 0;
-    while v < 2047 {
-        let upto = ends[v] as usize;
-        let reached = put_tight_bucket(out, width, v, from, upto, a, b, places, tick);
-        if 22 + 4 * upto < reached.at {
+    for v in 0..2047 {
+        let upto = tables.ends[v];
+        let Some(last) = put_tight_bucket(
+            out,
+            width,
+            v,
+            from,
+            upto as usize,
+            &mut tables.a,
+            &mut tables.b,
+            &mut tables.places,
+            tick,
+        ) else {
             return Front {
                 bucket: v,
                 at: 22 + 4 * from,
                 tick: tick,
             };
-        }
-        from = upto;
-        tick = reached.tick;
+        };
+        from = upto as usize;
+        tick = last;
         // The buckets behind the last event are empty.
-        v = if upto == all { 2047 } else { v + 1 };
+        if upto == all {
+            break;
+        }
     }
     Front {
-        bucket: v,
+        bucket: 2047,
         at: 22 + 4 * from,
         tick: tick,
     }

@@ -1,9 +1,12 @@
 // The track of many notes: counted, and written, window by window in the order of the file.
+// The two loops stand apart as those of a window do. They count no index: a turn takes as many events as the next window holds.
 ghost use Rattle.std.specs.Prelude.{◌≡◌, ◌+◌, ◌≤◌, length};
 ghost use Rattle.words.specs.Splice.{splice};
 ghost use Rattle.events.specs.Tracks.{track_left, track_most, events_left, TrackAsks};
 
 use crate::windows;
+use order::notes::Notes;
+use order::tables::Tables;
 use order::taking;
 use track::putting;
 
@@ -21,29 +24,18 @@ pub fn track_most(count: usize, end: u32) -> usize
 }
 
 // How many bytes the events of n lanes take, with the end of track at tick `end`.
-pub fn length_left(
-    s: &[u32],
-    count: usize,
-    n: usize,
-    pos: &mut [u32],
-    ends: &[u32],
-    to: &mut [u32],
-    a: &mut [u64],
-    b: &mut [u64],
-    places: &mut [u16],
-    end: u32,
-) -> usize
-    requires { TrackAsks s.now count n pos.old ends.now to.old a.old b.old places.old end × (length (track_left end 0 (events_left s.now count pos.old ends.now n)) ≤ 4294967295) }
-    ensures { result ≡ length (track_left end 0 (events_left s.now count pos.old ends.now n)) }
+pub fn length_left(notes: Notes, n: usize, tables: &mut Tables, end: u32) -> usize
+    requires { TrackAsks notes n tables.old.starts tables.old.ends end × (length (track_left end 0 (events_left notes tables.old.starts tables.old.ends n)) ≤ 4294967295) }
+    ensures { result ≡ length (track_left end 0 (events_left notes.entry tables.old.starts tables.old.ends n)) }
 {
-    let mut left = 2 * count;
+    let mut left = 2 * notes.count;
     let mut from: u64 = 0;
-    let mut width = taking::first_width(count, end);
+    let mut width = taking::first_width(notes.count, end);
     let mut at: usize = 0;
     let mut tick: u32 = 0;
     while 0 < left {
-        let w = taking::take_window(s, count, n, pos, ends, to, a, b, places, from, width);
-        let r = windows::window_length(a, w.count, at, tick);
+        let w = taking::take_window(notes, n, tables, from, width);
+        let r = windows::window_length(&tables.a[..w.count], at, tick);
         at = r.at;
         tick = r.tick;
         left -= w.count;
@@ -55,30 +47,24 @@ pub fn length_left(
 
 // Writes the events of n lanes and the end of track at tick `end` from place `start` on. Returns the place behind them.
 pub fn put_left(
-    s: &[u32],
-    count: usize,
+    notes: Notes,
     n: usize,
-    pos: &mut [u32],
-    ends: &[u32],
-    to: &mut [u32],
-    a: &mut [u64],
-    b: &mut [u64],
-    places: &mut [u16],
+    tables: &mut Tables,
     end: u32,
     out: &mut [u8],
     start: usize,
 ) -> usize
-    requires { TrackAsks s.now count n pos.old ends.now to.old a.old b.old places.old end × (start + length (track_left end 0 (events_left s.now count pos.old ends.now n)) ≤ length out.old) }
-    ensures { (result ≡ start + length (track_left end 0 (events_left s.now count pos.old ends.now n))) × (out.new ≡ splice out.old start (track_left end 0 (events_left s.now count pos.old ends.now n))) }
+    requires { TrackAsks notes n tables.old.starts tables.old.ends end × (start + length (track_left end 0 (events_left notes tables.old.starts tables.old.ends n)) ≤ length out.old) }
+    ensures { (result ≡ start + length (track_left end 0 (events_left notes.entry tables.old.starts tables.old.ends n))) × (out.new ≡ splice out.old start (track_left end 0 (events_left notes.entry tables.old.starts tables.old.ends n))) }
 {
-    let mut left = 2 * count;
+    let mut left = 2 * notes.count;
     let mut from: u64 = 0;
-    let mut width = taking::first_width(count, end);
+    let mut width = taking::first_width(notes.count, end);
     let mut at = start;
     let mut tick: u32 = 0;
     while 0 < left {
-        let w = taking::take_window(s, count, n, pos, ends, to, a, b, places, from, width);
-        let r = windows::put_window(out, at, tick, a, w.count);
+        let w = taking::take_window(notes, n, tables, from, width);
+        let r = windows::put_window(out, at, tick, &tables.a[..w.count]);
         at = r.at;
         tick = r.tick;
         left -= w.count;

@@ -1,8 +1,10 @@
 // A window of a track: some of its events, in order, one after the other. Counted, and written.
-ghost use Rattle.std.specs.Prelude.{◌≡◌, ◌+◌, ◌≤◌, length, take};
+// The two loops stand apart: one function over both would be lent an output that the count does not have, and say no more.
+ghost use Rattle.std.specs.Prelude.{◌≡◌, ◌+◌, ◌≤◌, length};
 ghost use Rattle.words.specs.Splice.{splice};
 ghost use Rattle.track.specs.Keys.{tick_of};
-ghost use Rattle.events.specs.Windows.{window_bytes, last_tick, WindowAsks};
+ghost use Rattle.events.specs.Tracks.{Timed};
+ghost use Rattle.events.specs.Windows.{window_bytes, last_tick, longest};
 
 use track::putting;
 
@@ -21,38 +23,39 @@ pub fn tick_of(event: u64) -> u32
     (event / 524288) as u32
 }
 
-// How far the first m events come, from place `at` and the tick of the event before them.
-pub fn window_length(a: &[u64], m: usize, at: usize, tick: u32) -> Reached
-    requires { WindowAsks a.now m tick × (at + length (window_bytes tick (take m a.now)) ≤ 4294967295) }
-    ensures { (result.at ≡ at + length (window_bytes tick (take m a.now))) × (result.tick ≡ last_tick tick (take m a.now)) }
+// How far events come, from place `at` and the tick of the event before them.
+pub fn window_length(events: &[u64], at: usize, tick: u32) -> Reached
+    requires { Timed longest tick events.now × (at + length (window_bytes tick events.now) ≤ 4294967295) }
+    ensures { (result.at ≡ at + length (window_bytes tick events.now)) × (result.tick ≡ last_tick tick events.now) }
 {
-    let mut q = at;
+    let mut place = at;
     let mut last = tick;
-    let mut i: usize = 0;
-    while i < m {
-        let next = tick_of(a[i]);
-        q += putting::group_count(next - last) as usize + 3;
+    for event in events {
+        let next = tick_of(*event);
+        place += putting::group_count(next - last) as usize + 3;
         last = next;
-        i += 1;
     }
-    Reached { at: q, tick: last }
+    Reached {
+        at: place,
+        tick: last,
+    }
 }
 
-// Writes the first m events from place `at` on, behind an event at `tick`. Returns how far they come.
-pub fn put_window(out: &mut [u8], at: usize, tick: u32, a: &[u64], m: usize) -> Reached
-    requires { WindowAsks a.now m tick × (at + length (window_bytes tick (take m a.now)) ≤ length out.old) }
-    ensures reached { (result.at ≡ at + length (window_bytes tick (take m a.now))) × (result.tick ≡ last_tick tick (take m a.now)) }
-    ensures bytes { out.new ≡ splice out.old at (window_bytes tick (take m a.now)) }
+// Writes events from place `at` on, behind an event at `tick`. Returns how far they come.
+pub fn put_window(out: &mut [u8], at: usize, tick: u32, events: &[u64]) -> Reached
+    requires { Timed longest tick events.now × (at + length (window_bytes tick events.now) ≤ length out.old) }
+    ensures reached { (result.at ≡ at + length (window_bytes tick events.now)) × (result.tick ≡ last_tick tick events.now) }
+    ensures bytes { out.new ≡ splice out.old at (window_bytes tick events.now) }
 {
-    let mut q = at;
+    let mut place = at;
     let mut last = tick;
-    let mut i: usize = 0;
-    while i < m {
-        let event = a[i];
-        let next = tick_of(event);
-        q = putting::put_event(out, q, next - last, event);
+    for event in events {
+        let next = tick_of(*event);
+        place = putting::put_event(out, place, next - last, *event);
         last = next;
-        i += 1;
     }
-    Reached { at: q, tick: last }
+    Reached {
+        at: place,
+        tick: last,
+    }
 }

@@ -22,7 +22,8 @@ use Rattle.midi.proofs.Sorting.{all-in_order}
 use Rattle.session.specs.Reading.{note_at}
 use Rattle.track.specs.Keys.{key_of, tick_of, event_of}
 use Rattle.events.specs.Tracks.{track_left, Timed, Timed.over, Timed.next, TrackAsks}
-use Rattle.writer.specs.Files.{FileAsks, Room}
+use Rattle.writer.specs.declared.take.Take.{Take}
+use Rattle.writer.specs.Files.{FileAsks}
 use Rattle.writer.proofs.Keys.{each_note, each_pair, events-keys, all_differ, sort-keys}
 
 -- ---- events from their numbers
@@ -142,19 +143,16 @@ module _ {s : List ℕ} {count δ beats : ℕ} (a : FileAsks s count δ beats) w
   timed = timed_from (beats * δ) 0 (S.sort keys) (omega arith) (S.sort_ascending keys) (least_zero (S.sort keys))
       (rw sorted_is (all-keys (λ k. tick_of k ≤ beats * δ) (in_order (gather events_of notes)) (all-in_order (λ e. tick_of (key_of e) ≤ beats * δ) (gather events_of notes) (all-within δ beats notes fair))))
 
-  pub track_asks : {pos ends to t b places : List ℕ} {n : ℕ} → Split s count pos ends n → n ≤ 2048 → Room pos ends to t b places
-      → TrackAsks s count n pos ends to t b places (beats * δ)
-  track_asks w l r =
+-- a take's
+module _ (take : Take) where
+  pub track_asks : {pos ends : List ℕ} {n : ℕ} → Split take.notes.words.now take.notes.count pos ends n → n ≤ 2048 → TrackAsks take.notes n pos ends (take.beats * take.delta)
+  track_asks w l =
+      let a = take.sound in
       record {
-        inside = a.inside;
         few = a.few;
         queues = w.queues;
         all = split_length w;
-        timed = rw w.all timed;
-        short = omega (arith, end_short);
+        timed = rw w.all (timed a);
+        short = omega (arith, end_short a);
         lanes = l;
-        room = omega (arith, r.next);
-        here = r.here;
-        there = r.there;
-        table = r.table;
       }

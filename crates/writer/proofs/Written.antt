@@ -4,6 +4,7 @@ use mathlib.Core.Bool.{true, false}
 use mathlib.Core.List.{List, ◌++◌}
 use Prim.Native.Nat.{ℕ, ◌+◌, ◌-◌, ◌*◌, ◌≤◌}
 use native.Mathlib.Omega.{arith}
+use Rattle.std.proofs.Common.{None, Some}
 use lib.Dec.{leb}
 use lib.ListN.{length, length-append}
 use borrow.Author.Tests.{le-leb, leb-true}
@@ -17,7 +18,7 @@ use Rattle.midi.specs.Reading.{MThd, MTrk}
 use Rattle.midi.specs.Writing.{header_bytes, track_bytes, file_bytes}
 use Rattle.midi.proofs.Lengths.{track_most_lem, track_near}
 use Rattle.events.specs.Tracks.{track_left, track_most}
-use Rattle.writer.specs.Files.{FileAsks, file_of, count_of, output_of}
+use Rattle.writer.specs.Files.{FileAsks, file_of, length_in, output_of}
 use Rattle.writer.proofs.Shelves.{track_is}
 
 pub header-length : (δ n : ℕ) → length (header_bytes δ n) ≡ 22
@@ -83,17 +84,17 @@ module _ {s : List ℕ} {count δ beats : ℕ} (a : FileAsks s count δ beats) w
       -- the track behind 22 bytes, and then the header, are the file
       pub file-put : {r : ℕ} {mid end : List ℕ} → r ≡ 22 + length (track_left (beats * δ) 0 ks)
           → mid ≡ splice out 22 (track_left (beats * δ) 0 ks) → end ≡ splice mid 0 (header_bytes δ (r - 22))
-          → (r ≡ count_of file out) × (end ≡ output_of file out)
+          → (Some r ≡ length_in file out) × (end ≡ output_of file out)
       unfolding file_bytes
       file-put {r} {mid} {end} e g h =
           let i : r - 22 ≡ length track = omega (arith, e, ap length left_is) in
           let j : r ≡ length file = omega (arith, e, ap length left_is, file-length) in
           let k : end ≡ splice (splice out (0 + length (header_bytes δ (length track))) track) 0 (header_bytes δ (length track)) =
           rw (h, g, left_is, i, header-length δ (length track)) in
-          rw f (j, k ∙ sym (splice-append-last out 0 (header_bytes δ (length track)) track))
+          rw f (ap Some j, k ∙ sym (splice-append-last out 0 (header_bytes δ (length track)) track))
 
   pub bound-fits : (room : ℕ) → 22 + track_most count (beats * δ) ≤ room → true ≡ leb (length file) room
   bound-fits room h = sym (le-leb (length file) room (omega (arith, file-length, track-bound)))
 
-  pub file-none : (out : List ℕ) → leb (length file) (length out) ≡ false → (0 ≡ count_of file out) × (out ≡ output_of file out)
+  pub file-none : (out : List ℕ) → leb (length file) (length out) ≡ false → (None ≡ length_in file out) × (out ≡ output_of file out)
   file-none out f = rw f (refl, refl)

@@ -1,5 +1,5 @@
 -- The file of a shelf's notes as its code writes it: what each function is asked, and what it leaves. Assumes nothing.
-use Rattle.std.specs.Prelude.{◌≡◌, true, cond, List, ℕ, ◌*◌, ◌≤◌, ◌<◌, leb, length}
+use Rattle.std.specs.Prelude.{◌≡◌, Option, None, Some, MatchOption, true, cond, List, ℕ, ◌*◌, ◌≤◌, ◌<◌, leb, length}
 use Rattle.words.specs.Splice.{splice}
 use Rattle.model.specs.Limits.{max_beats, max_delta, max_words}
 use Rattle.model.specs.Soundness.{notes_ok, sound_shelf}
@@ -23,29 +23,19 @@ pub record PartAsks (h : Header) (ws : List ℕ) : Type 0 where
   pub whole : length ws ≡ h.words
   pub sound : sound_shelf h ws ≡ true
 
--- Room for the places of the lanes or the buckets, and for the events of a window or a bucket.
-pub record Room (pos ends to a b places : List ℕ) : Type 0 where
-  pub starts : 2048 ≤ length pos
-  pub limits : 2048 ≤ length ends
-  pub next : 2048 ≤ length to
-  pub here : 2048 ≤ length a
-  pub there : 2048 ≤ length b
-  pub table : 2048 ≤ length places
-
--- The file of some notes' words, and of a shelf's words; its length if it fits an output, and else 0; and the output with it.
+-- The file of some notes' words, and of a shelf's words; its length if it fits an output; and the output with it.
 abbrev pub file_of : List ℕ → ℕ → ℕ → ℕ → List ℕ
 file_of s count δ beats = file_bytes δ beats (read_notes count s)
 
 abbrev pub file_in : Header → List ℕ → List ℕ
 file_in h ws = file_bytes h.delta (word ws 0) (notes_in ws)
 
-abbrev pub count_of : List ℕ → List ℕ → ℕ
-count_of file out = cond (leb (length file) (length out)) (length file) 0
+abbrev pub length_in : List ℕ → List ℕ → Option ℕ
+length_in file out = cond (leb (length file) (length out)) (Some (length file)) None
 
 abbrev pub output_of : List ℕ → List ℕ → List ℕ
 output_of file out = cond (leb (length file) (length out)) (splice out 0 file) out
 
--- The file is written; or, where the result is 0, the output is as it was and nothing is said of the file.
-pub record Tried (r : ℕ) (file out after : List ℕ) : Type 0 where
-  pub done : 0 < r → (r ≡ count_of file out) × (after ≡ output_of file out)
-  pub kept : r ≡ 0 → after ≡ out
+-- The file is written, and its length returned; or the output is as it was, and nothing is said of the file.
+abbrev pub Tried : Option ℕ → List ℕ → List ℕ → List ℕ → Type 0
+Tried r file out after = MatchOption r (after ≡ out) (λ n. (Some n ≡ length_in file out) × (after ≡ output_of file out))

@@ -1,27 +1,30 @@
 // The file of many notes within few ticks: their events go straight to their places.
-ghost use Rattle.std.specs.Prelude.{◌≡◌, ◌*◌, ◌≤◌};
-ghost use Rattle.writer.specs.Files.{FileAsks, Tried, file_of};
+ghost use Rattle.std.specs.Prelude.{◌*◌, ◌≤◌};
+ghost use Rattle.writer.specs.Files.{Tried};
+ghost use Rattle.writer.specs.Takes.{file};
 
 use crate::files;
+use crate::take::Take;
 use track::putting;
 
-// The file of a shelf's notes. Returns its length; or 0, with the output as it was, if it does not fit or has a time of two bytes.
-pub fn put_dense(s: &[u32], count: usize, delta: u32, beats: u32, out: &mut [u8]) -> usize
-    requires { FileAsks s.now count delta beats × (beats * delta ≤ 1023) }
-    ensures { Tried result (file_of s.now count delta beats) out.old out.new }
+// The file of a take. Returns its length; or nothing, with the output as it was, if it does not fit or has a time of two bytes.
+pub fn put_dense(take: Take, out: &mut [u8]) -> Option<usize>
+    requires { take.beats * take.delta ≤ 1023 }
+    ensures { Tried result (file take.entry) out.old out.new }
 {
+    let count = take.notes.count;
     let mut places = [0u32; 2048];
-    let ticks = ranks::plan(s, count, &mut places);
+    let ticks = ranks::plan(take.notes, &mut places);
     if 127 < ticks.longest {
-        return 0;
+        return None;
     }
-    let time = beats * delta - ticks.last;
+    let time = take.end() - ticks.last;
     let length = 22 + 8 * count + putting::group_count(time) as usize + 3;
     if out.len() < length {
-        return 0;
+        return None;
     }
-    ranks::put_events(s, count, &mut places, out);
+    ranks::put_events(take.notes, &mut places, out);
     putting::put_end(out, 22 + 8 * count, time);
-    files::put_header(out, delta, (length - 22) as u32);
-    length
+    files::put_header(out, take.delta, (length - 22) as u32);
+    Some(length)
 }

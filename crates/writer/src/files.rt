@@ -1,12 +1,20 @@
-// The file of a shelf's notes, written into an output that it fits.
-ghost use Rattle.std.specs.Prelude.{◌≡◌, ◌≤◌, length};
+// The file of a take, written into an output that it fits.
+ghost use Rattle.std.specs.Prelude.{◌≡◌, ℕ, ◌*◌, ◌≤◌, ◌<◌, length};
 ghost use Rattle.words.specs.Splice.{splice};
+ghost use Rattle.order.specs.Notes.{events_of};
+ghost use Rattle.order.specs.Events.{end_at, Ordered};
 ghost use Rattle.model.specs.Limits.{max_delta};
 ghost use Rattle.midi.specs.Writing.{header_bytes};
-ghost use Rattle.writer.specs.Files.{FileAsks, PartAsks, Room, file_of, file_in, count_of, output_of};
+ghost use Rattle.buckets.specs.Plans.{Planned};
+ghost use Rattle.writer.specs.Files.{PartAsks, file_in, length_in, output_of};
+ghost use Rattle.writer.specs.Takes.{file};
 
+use crate::take::Take;
 use crate::{dense, few, many, wide};
 use model::Header;
+use order::notes::Notes;
+use order::tables::Tables;
+use session::beats::Divisor;
 use track::bytes;
 
 // MThd of length 6, format 0, one track, division δ; MTrk with the length of the track.
@@ -23,85 +31,76 @@ pub fn put_header(out: &mut [u8], delta: u32, size: u32)
     bytes::put_word32(out, 18, size);
 }
 
-// The file of a shelf's notes, if it fits the output. Returns its length, or 0 if it does not fit. The events are taken window by window, or where
-// the lanes are many, bucket by bucket in the output itself. The tables are lent to the way that is taken.
-fn put_lent(
-    s: &[u32],
-    count: usize,
-    delta: u32,
-    beats: u32,
-    pos: &mut [u32],
-    ends: &mut [u32],
-    to: &mut [u32],
-    a: &mut [u64],
-    b: &mut [u64],
-    places: &mut [u16],
-    out: &mut [u8],
-) -> usize
-    requires { FileAsks s.now count delta beats × Room pos.old ends.old to.old a.old b.old places.old }
-    ensures { (result ≡ count_of (file_of s.now count delta beats) out.old) × (out.new ≡ output_of (file_of s.now count delta beats) out.old) }
+// Where the events of each bucket begin, unless a bucket has too many. The table is lent by itself: behind a reference to all of them it would not be
+// seen that it stays as long as it is.
+fn plan(notes: Notes, width: Divisor, ends: &mut [u32; 2048]) -> bool
+    requires { Ordered notes.words.now notes.count × (width.delta ≤ 8192) × ((i : ℕ) → i < notes.count → end_at notes.words.now i < 2048 * width.delta) × (notes.count < 1048576) }
+    ensures planned { Planned result width.delta (events_of notes.entry) ends.new }
+    ensures long { length ends.new ≡ 2048 }
 {
-    let w = wide::bucket_ticks(s, count, beats * delta, out.len());
-    if 0 < w {
-        if buckets::plan(s, count, w, ends) {
-            return wide::put_wide(s, count, delta, beats, w, pos, ends, to, a, b, places, out);
-        }
-    }
-    many::put_many(s, count, delta, beats, pos, ends, to, a, b, places, out)
+    buckets::plan(notes, width, ends)
 }
 
-// The file of a shelf's notes, if it fits the output. Returns its length, or 0 if it does not fit. Both ways of writing it work in the same tables,
-// which are made here, so that they stand on the stack once.
-fn put_long_file(s: &[u32], count: usize, delta: u32, beats: u32, out: &mut [u8]) -> usize
-    requires { FileAsks s.now count delta beats }
-    ensures { (result ≡ count_of (file_of s.now count delta beats) out.old) × (out.new ≡ output_of (file_of s.now count delta beats) out.old) }
+// The file of a take, if it fits the output. Returns its length. The events are taken window by window, or where the lanes are many, bucket by
+// bucket in the output itself. The tables are lent to the way that is taken.
+fn put_lent(take: Take, tables: &mut Tables, out: &mut [u8]) -> Option<usize>
+    ensures { (result ≡ length_in (file take.entry) out.old) × (out.new ≡ output_of (file take.entry) out.old) }
 {
-    let mut pos = [0u32; 2048];
-    let mut ends = [0u32; 2048];
-    let mut to = [0u32; 2048];
-    let mut a = [0u64; 2048];
-    let mut b = [0u64; 2048];
-    let mut places = [0u16; 2048];
-    put_lent(
-        s,
-        count,
-        delta,
-        beats,
-        &mut pos,
-        &mut ends,
-        &mut to,
-        &mut a,
-        &mut b,
-        &mut places,
-        out,
-    )
-}
-
-// The file of a shelf's notes, if it fits the output. Returns its length, or 0 if it does not fit. The events of few notes stand in one table,
-// which is less to clear than the tables for many; those of many notes within few ticks are not put in order at all.
-pub fn put_file(s: &[u32], count: usize, delta: u32, beats: u32, out: &mut [u8]) -> usize
-    requires { FileAsks s.now count delta beats }
-    ensures { (result ≡ count_of (file_of s.now count delta beats) out.old) × (out.new ≡ output_of (file_of s.now count delta beats) out.old) }
-{
-    if count <= 1024 {
-        if beats * delta <= 2097151 {
-            return few::put_few(s, count, delta, beats, out);
+    if let Some(ticks) = wide::bucket_ticks(take.notes, take.end(), out.len()) {
+        let width = Divisor::new(ticks);
+        if plan(take.notes, width, &mut tables.ends) {
+            return Some(wide::put_wide(take, width, tables, out));
         }
     }
-    if beats * delta <= 1023 {
-        let length = dense::put_dense(s, count, delta, beats, out);
-        if 0 < length {
-            return length;
-        }
-    }
-    put_long_file(s, count, delta, beats, out)
+    many::put_many(take, tables, out)
 }
 
-// The file of a sound shelf's words, if it fits the output. Returns its length, or 0 if it does not fit.
-pub fn put_shelf_file(h: Header, part: &[u32], out: &mut [u8]) -> usize
+// The file of a take, if it fits the output. Returns its length. Both ways of writing it work in the same tables, which are made here, so that they
+// stand on the stack once.
+fn put_long_file(take: Take, out: &mut [u8]) -> Option<usize>
+    ensures { (result ≡ length_in (file take.entry) out.old) × (out.new ≡ output_of (file take.entry) out.old) }
+{
+    let mut tables = Tables {
+        starts: [0; 2048],
+        ends: [0; 2048],
+        next: [0; 2048],
+        a: [0; 2048],
+        b: [0; 2048],
+        places: [0; 2048],
+    };
+    put_lent(take, &mut tables, out)
+}
+
+// The file of a take, if it fits the output. Returns its length. The events of few notes stand in one table, which is less to clear than the tables
+// for many; those of many notes within few ticks are not put in order at all.
+pub fn put_file(take: Take, out: &mut [u8]) -> Option<usize>
+    ensures { (result ≡ length_in (file take.entry) out.old) × (out.new ≡ output_of (file take.entry) out.old) }
+{
+    let end = take.end();
+    if take.notes.count <= 1024 && end <= 2097151 {
+        return few::put_few(take, out);
+    }
+    if end <= 1023 {
+        if let Some(length) = dense::put_dense(take, out) {
+            return Some(length);
+        }
+    }
+    put_long_file(take, out)
+}
+
+// The file of a sound shelf's words, if it fits the output. Returns its length.
+pub fn put_shelf_file(h: Header, part: &[u32], out: &mut [u8]) -> Option<usize>
     requires { PartAsks h part.now }
-    ensures { (result ≡ count_of (file_in h part.now) out.old) × (out.new ≡ output_of (file_in h part.now) out.old) }
+    ensures { (result ≡ length_in (file_in h part.now) out.old) × (out.new ≡ output_of (file_in h part.now) out.old) }
 {
-    let count = part[1] as usize;
-    put_file(&part[3..part.len()], count, h.delta, part[0], out)
+    let notes = Notes {
+        words: &part[3..],
+        count: part[1] as usize,
+    };
+    let take = Take {
+        notes: notes,
+        delta: h.delta,
+        beats: part[0],
+    };
+    put_file(take, out)
 }

@@ -5,4 +5,5 @@ pub mod dense;
 pub mod few;
 pub mod files;
 pub mod many;
+pub mod take;
 pub mod wide;

@@ -1,5 +1,4 @@
 -- `events::emitting::bucket_start` meets its contract.
-use Prim.Native.Nat.{◌-◌}
 use native.Mathlib.Omega.{arith}
 use Rattle.events.proofs.BucketLoops.{start_first, start_later}
 use Rattle.events.proofs.emitting.bucket_start.Goals as goal
@@ -7,8 +6,5 @@ use Rattle.events.proofs.emitting.bucket_start.Goals as goal
 pub returns-then-v-eq0 : goal.returns-then-v-eq0
 returns-then-v-eq0 c = start_first _ _ c.if-v-eq0.true
 
-pub overflow_cast-result : goal.overflow_cast-result
-overflow_cast-result c = omega (arith, c.type_inv.ends (c.args.v - 1))
-
-pub returns : goal.returns
-returns c = start_later _ _ (omega (arith, c.if-v-eq0.false))
+pub returns-else-v-eq0 : goal.returns-else-v-eq0
+returns-else-v-eq0 c = start_later _ _ (omega (arith, c.if-v-eq0.false))

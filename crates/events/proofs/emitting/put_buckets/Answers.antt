@@ -1,23 +1,22 @@
 -- `events::emitting::put_buckets` meets its contract.
-use mathlib.Core.Path.{refl}
 use native.Mathlib.Omega.{arith}
-use Rattle.events.proofs.BucketLoops.{emitting_start, emitting_at, emitting_bucket, emitting_next, emitting_over}
-use borrow.Author.Rules.{rules}
+use Rattle.events.proofs.BucketLoops.{emitting_at, emitting_bucket, emitting_next, emitting_over}
 use Rattle.events.proofs.emitting.put_buckets.Goals as goal
-
-pub loop-v-init : goal.loop-v-init
-loop-v-init c = (emitting_start c.requires.0 c.requires.4, refl)
 
 pub put_bucket-requires : goal.put_bucket-requires
 put_bucket-requires c =
-    let s = c.requires in (
-      record { limits = s.1.limits; here = omega (arith, s.1.here, c.loop-v.invariant.1); places = s.1.places; times = s.1.times },
-      s.2,
-      emitting_bucket s.2 s.3 (omega arith) (emitting_at _ (omega arith) c.loop-v.invariant.0),
-    )
+    let i = c.loop-v.invariant in
+    let s = c.requires in
+    rw (i.1.starts, i.1.ends, i.1.next) (s.1, emitting_bucket s.1 s.2 (omega arith) (emitting_at _ (omega arith) i.0))
 
 pub loop-v-preserved : goal.loop-v-preserved
-loop-v-preserved c = (emitting_next c.requires.2 c.requires.3 (omega arith) (emitting_at _ (omega arith) c.loop-v.invariant.0) c.put_bucket.ensures, search rules)
+loop-v-preserved c =
+    let i = c.loop-v.invariant in
+    let s = c.requires in
+    (emitting_next s.1 s.2 (omega arith) (emitting_at _ (omega arith) i.0) (rw (i.1.starts, i.1.ends, i.1.next) at c.put_bucket.ensures.bytes), record { starts = i.1.starts; ends = i.1.ends; next = i.1.next })
 
 pub returns : goal.returns
-returns c = emitting_over c.loop-v-test.false c.loop-v.invariant.0
+returns c = emitting_over (omega arith) c.loop-v.invariant.0
+
+pub invariant_of-tables : goal.invariant_of-tables
+invariant_of-tables c = let l = c.loop-v.tables.long in record { long = (l.0, l.1, l.2, c.put_bucket.ensures.long, l.4, l.5) }

@@ -1,51 +1,34 @@
 -- `events::tight::put_tight` meets its contract: the bytes of the buckets passed are written.
-use mathlib.Core.Path.{refl}
+use mathlib.Core.Path.{◌≡◌, refl}
 use native.Mathlib.Omega.{arith}
-use Rattle.events.proofs.TightLoops.{tight_start, tight_long, tight_inside, tight_bucket, tight_more, last-start, tight_rest, tight_over}
-use borrow.Author.Rules.{rules}
+use Rattle.events.proofs.TightLoops.{tight_start, tight_bucket, tight_more, last-start, tight_rest}
 use Rattle.events.proofs.tight.put_tight.Goals as goal
+use Rattle.events.proofs.tight.put_tight.Goals.{else-loop-v-test, then-loop-v-test+in-Some+then-upto-all}
 
 pub loop-v-init : goal.loop-v-init
-loop-v-init c = (tight_start _ _ _, refl, refl, refl)
+loop-v-init c = (tight_start _ _ _, record { starts = refl; ends = refl; next = refl })
 
-pub overflow_cast-upto : goal.overflow_cast-upto
-overflow_cast-upto c = omega (arith, c.type_inv.ends c.loop-v.v)
+pub put_tight_bucket-requires : goal.put_tight_bucket-requires
+put_tight_bucket-requires c = rw c.loop-v.invariant.1.ends (tight_bucket c.requires c.loop-v.invariant.0 refl)
 
-pub put_tight_bucket-reached-requires : goal.put_tight_bucket-reached-requires
-put_tight_bucket-reached-requires c = (tight_bucket c.requires.0 c.loop-v.invariant.0 refl, record { here = search rules; there = search rules; table = search rules })
-
-pub overflow_mul-upto : goal.overflow_mul-upto
-overflow_mul-upto c = omega (arith, c.type_inv.ends c.loop-v.v)
-
-pub overflow_add-upto : goal.overflow_add-upto
-overflow_add-upto c = omega (arith, c.type_inv.ends c.loop-v.v)
-
-pub overflow_mul-result : goal.overflow_mul-result
-overflow_mul-result c = omega (arith, tight_inside c.requires.0 c.loop-v.invariant.0)
-
-pub overflow_add-result : goal.overflow_add-result
-overflow_add-result c = omega (arith, tight_inside c.requires.0 c.loop-v.invariant.0)
-
-pub shape_of-out-then-upto-reached : goal.shape_of-out-then-upto-reached
-shape_of-out-then-upto-reached c = omega (arith, tight_long c.requires.0 c.loop-v.invariant.0, c.put_tight_bucket-reached.auto.out)
-
-pub returns-then-upto-reached : goal.returns-then-upto-reached
-returns-then-upto-reached c = tight_over c.requires.0 c.loop-v.invariant.0 refl c.put_tight_bucket-reached.ensures c.if-upto-reached.true
-
-pub loop-v-preserved-then-upto-all : goal.loop-v-preserved-then-upto-all
-loop-v-preserved-then-upto-all c = (tight_rest c.requires.0 (tight_more c.requires.0 c.loop-v.invariant.0 refl c.put_tight_bucket-reached.ensures c.loop-v-test.true c.if-upto-reached.false) (last-start _ _ c.if-upto-all.true), search rules, search rules, search rules)
+pub invariant_of-tables : goal.invariant_of-tables
+invariant_of-tables c =
+    let l = c.loop-v.tables.long in
+    let t = c.put_tight_bucket.ensures.long in
+    record { long = (l.0, l.1, l.2, t.0, t.1, t.2) }
 
 pub loop-v-preserved : goal.loop-v-preserved
-loop-v-preserved c = (tight_more c.requires.0 c.loop-v.invariant.0 refl c.put_tight_bucket-reached.ensures c.loop-v-test.true c.if-upto-reached.false, search rules, search rules, search rules)
+loop-v-preserved c =
+    let i = c.loop-v.invariant in
+    let b = rw i.1.ends at c.put_tight_bucket.ensures.put in
+    (rw i.1.ends (tight_more c.requires i.0 refl b (omega arith) c.in-Some.is), record { starts = i.1.starts; ends = i.1.ends; next = i.1.next })
 
-pub overflow_mul-result-2 : goal.overflow_mul-result-2
-overflow_mul-result-2 c = omega (arith, tight_inside c.requires.0 c.loop-v.invariant.0)
-
-pub overflow_add-result-2 : goal.overflow_add-result-2
-overflow_add-result-2 c = omega (arith, tight_inside c.requires.0 c.loop-v.invariant.0)
-
-pub shape_of-out : goal.shape_of-out
-shape_of-out c = tight_long c.requires.0 c.loop-v.invariant.0
-
-pub returns : goal.returns
-returns c = c.loop-v.invariant.0
+pub returns-clause-put : goal.returns-clause-put
+returns-clause-put c =
+    let i = c.loop-v.invariant in
+    elim c.loop-v-test.branch [
+      | else-loop-v-test w ↦ rw (w.out-is, w.from-is, w.tick-is) (let e : c.loop-v.v ≡ 2047 = omega (arith, w.loop-v-test.false) in rw e at i.0)
+      | then-loop-v-test+in-Some+then-upto-all w ↦ rw (w.out-is, w.from-is, w.tick-is, i.1.ends)
+          (let t = tight_more c.requires i.0 refl (rw i.1.ends at w.put_tight_bucket.ensures.put) (omega (arith, w.loop-v-test.true)) w.in-Some.is in
+          tight_rest c.requires t (last-start _ _ (rw i.1.ends at w.if-upto-all.true)))
+    ]

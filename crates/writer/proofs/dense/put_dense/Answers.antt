@@ -1,42 +1,34 @@
 -- `writer::dense::put_dense` meets its contract.
 use mathlib.Core.Path.{refl}
 use native.Mathlib.Omega.{arith}
-use Rattle.writer.proofs.Ranked.{tried_not, rank_asks, planned_last, planned_short, dense_small, end_room, dense_put}
-use borrow.Author.Rules.{rules}
+use Rattle.writer.proofs.Ranked.{ranks_keyed, planned_last, planned_short, dense_small, end_room, dense_put}
 use Rattle.writer.proofs.dense.put_dense.Goals as goal
 
 pub plan-ticks-requires : goal.plan-ticks-requires
-plan-ticks-requires c = (rank_asks c.requires.0 c.requires.1, search rules)
-
-pub returns-then-ticks-gt127 : goal.returns-then-ticks-gt127
-returns-then-ticks-gt127 c = tried_not _ _
-
-pub overflow_mul-time : goal.overflow_mul-time
-overflow_mul-time c = omega (arith, c.requires.1)
+plan-ticks-requires c = ranks_keyed c.args.take.sound c.requires
 
 pub overflow_sub-time : goal.overflow_sub-time
-overflow_sub-time c = omega (arith, planned_last c.requires.0 c.requires.1 c.plan-ticks.ensures)
-
-pub overflow_mul-length : goal.overflow_mul-length
-overflow_mul-length c = omega (arith, c.requires.0.few)
-
-pub overflow_add-length : goal.overflow_add-length
-overflow_add-length c = omega (arith, c.requires.0.few)
-
-pub group_count-requires : goal.group_count-requires
-group_count-requires c = omega (arith, c.requires.1)
-
-pub returns-then-out-length : goal.returns-then-out-length
-returns-then-out-length c = tried_not _ _
+overflow_sub-time c = omega (arith, planned_last c.args.take.sound c.requires c.plan-ticks.ensures, c.end.ensures)
 
 pub put_events-requires : goal.put_events-requires
-put_events-requires c = (rank_asks c.requires.0 c.requires.1, record { table = search rules; room = omega (arith, c.if-out-length.false) }, c.plan-ticks.ensures.first, planned_short c.requires.0 c.requires.1 c.plan-ticks.ensures (omega (arith, c.if-ticks-gt127.false)))
+put_events-requires c =
+    let p = c.args.take.sound in
+    let w = c.plan-ticks.ensures in
+    (ranks_keyed p c.requires, omega (arith, c.if-out-length.false), w.first, planned_short p c.requires w (omega (arith, c.if-ticks-gt127.false)))
 
 pub put_end-requires : goal.put_end-requires
-put_end-requires c = (omega (arith, c.requires.1), end_room c.requires.0 c.requires.1 c.plan-ticks.ensures (omega (arith, c.if-ticks-gt127.false)) c.group_count.ensures _ (omega (arith, c.if-out-length.false)) c.put_events.ensures)
+put_end-requires c =
+    let g = rw c.end.ensures at c.group_count.ensures in
+    let r = end_room c.args.take.sound c.requires c.plan-ticks.ensures (omega (arith, c.if-ticks-gt127.false)) g c.args.out.now (omega (arith, c.if-out-length.false)) c.put_events.ensures in
+    (omega (arith, c.requires, c.end.ensures), rw c.end.ensures r)
 
 pub overflow_cast-length-2 : goal.overflow_cast-length-2
-overflow_cast-length-2 c = omega (arith, dense_small c.requires.0 c.requires.1 c.plan-ticks.ensures (omega (arith, c.if-ticks-gt127.false)) c.group_count.ensures)
+overflow_cast-length-2 c =
+    let g = rw c.end.ensures at c.group_count.ensures in
+    omega (arith, dense_small c.args.take.sound c.requires c.plan-ticks.ensures (omega (arith, c.if-ticks-gt127.false)) g)
 
 pub returns : goal.returns
-returns c = dense_put c.requires.0 c.requires.1 c.plan-ticks.ensures (omega (arith, c.if-ticks-gt127.false)) c.group_count.ensures _ (omega (arith, c.if-out-length.false)) refl c.put_events.ensures c.put_end.ensures.1 c.put_header.ensures
+returns c =
+    let g = rw c.end.ensures at c.group_count.ensures in
+    let t = rw c.end.ensures at c.put_end.ensures in
+    dense_put c.args.take.sound c.requires c.plan-ticks.ensures (omega (arith, c.if-ticks-gt127.false)) g c.args.out.now (omega (arith, c.if-out-length.false)) refl c.put_events.ensures t.1 c.put_header.ensures

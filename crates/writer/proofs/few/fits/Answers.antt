@@ -3,20 +3,14 @@ use mathlib.Core.Path.{ap}
 use Prim.Native.Nat.{ℕ}
 use native.Mathlib.Omega.{arith}
 use lib.Dec.{leb}
-use Rattle.writer.proofs.Tables.{table_window, table_last, table_length, table_fits, table_count}
+use Rattle.writer.proofs.Tables.{table_timed, table_last, table_length, table_count}
 use Rattle.writer.proofs.few.fits.Goals as goal
 
-pub returns-then-track_most-room : goal.returns-then-track_most-room
-returns-then-track_most-room c = table_fits c.requires _ (omega (arith, c.if-track_most-room.true, c.track_most.ensures))
-
 pub window_length-reached-requires : goal.window_length-reached-requires
-window_length-reached-requires c = (table_window c.requires, omega (arith, table_length c.requires, c.requires.bound, c.requires.few))
+window_length-reached-requires c = (table_timed c.requires, omega (arith, table_length c.requires, c.requires.bound, c.requires.few))
 
 pub overflow_sub-end : goal.overflow_sub-end
 overflow_sub-end c = omega (arith, table_last c.requires, c.window_length-reached.ensures.1)
-
-pub overflow_cast-result : goal.overflow_cast-result
-overflow_cast-result c = omega (arith, table_count c.requires c.window_length-reached.ensures.0 c.window_length-reached.ensures.1 c.group_count.ensures, c.requires.bound, c.requires.few)
 
 pub overflow_add-result : goal.overflow_add-result
 overflow_add-result c = omega (arith, table_count c.requires c.window_length-reached.ensures.0 c.window_length-reached.ensures.1 c.group_count.ensures, c.requires.bound, c.requires.few)

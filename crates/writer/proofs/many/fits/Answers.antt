@@ -1,23 +1,26 @@
 -- `writer::many::fits` meets its contract: by the bound, or by the events counted.
 use native.Mathlib.Omega.{arith}
-use Rattle.writer.proofs.Shelves.{ordered, end_short, track_asks}
+use Rattle.writer.proofs.Shelves.{ordered, track_asks}
 use Rattle.writer.proofs.Written.{bound-fits, left-short, counted_fits}
 use Rattle.writer.proofs.many.fits.Goals as goal
 
-pub overflow_mul-end : goal.overflow_mul-end
-overflow_mul-end c = omega (arith, end_short c.requires.0)
-
 pub returns-then-track_most-room : goal.returns-then-track_most-room
-returns-then-track_most-room c = bound-fits c.requires.0 _ (omega (arith, c.if-track_most-room.true, c.track_most.ensures))
+returns-then-track_most-room c = let m = rw c.end-end.ensures at c.track_most.ensures in bound-fits c.args.take.sound _ (omega (arith, c.if-track_most-room.true, m))
 
 pub runs-n-requires : goal.runs-n-requires
-runs-n-requires c = (ordered c.requires.0, omega (arith, c.requires.1.starts), omega (arith, c.requires.1.limits))
+runs-n-requires c = ordered c.args.take.sound
 
 pub length_left-length-requires : goal.length_left-length-requires
-length_left-length-requires c = (track_asks c.requires.0 c.runs-n.ensures.0 c.runs-n.ensures.1 (record { starts = omega (arith, c.requires.1.starts); limits = omega (arith, c.requires.1.limits); next = omega (arith, c.requires.1.next); here = omega (arith, c.requires.1.here); there = omega (arith, c.requires.1.there); table = omega (arith, c.requires.1.table) }), omega (arith, left-short c.requires.0 c.runs-n.ensures.0.all, c.requires.0.few))
+length_left-length-requires c =
+    let p = c.args.take.sound in
+    let r = c.runs-n.ensures in
+    rw c.end-end.ensures (track_asks c.args.take r.0 r.1, omega (arith, left-short p r.0.all, p.few))
 
 pub overflow_add-result : goal.overflow_add-result
-overflow_add-result c = omega (arith, left-short c.requires.0 c.runs-n.ensures.0.all, c.length_left-length.ensures, c.requires.0.few)
+overflow_add-result c =
+    let p = c.args.take.sound in
+    let l = rw c.end-end.ensures at c.length_left-length.ensures in
+    omega (arith, left-short p c.runs-n.ensures.0.all, l, p.few)
 
 pub returns : goal.returns
-returns c = counted_fits c.requires.0 c.runs-n.ensures.0.all _ c.length_left-length.ensures
+returns c = counted_fits c.args.take.sound c.runs-n.ensures.0.all _ (rw c.end-end.ensures at c.length_left-length.ensures)
