@@ -1,8 +1,8 @@
 -- Lay's questions 6, 7 and 8, by the way that the answer goes. Assumes nothing.
-use mathlib.Core.Path.{◌≡◌, refl, ap}
+use mathlib.Core.Path.{◌≡◌, ap}
 use mathlib.Core.Bool.{Bool, true, false, cond}
 use mathlib.Core.List.{List, [], ◌∷◌}
-use Prim.Native.Nat.{ℕ, ◌+◌, ◌*◌, ◌/◌, ◌%◌, ◌≤◌, ◌<◌}
+use Prim.Native.Nat.{ℕ, ◌*◌, ◌/◌, ◌%◌, ◌≤◌, ◌<◌}
 use native.Mathlib.Nat.{div-add-mod'}
 use native.Mathlib.Omega.{arith}
 use borrow.Author.Tests.{leb-true, eqb-true, le-leb, lt-leb}
@@ -15,10 +15,13 @@ use Rattle.model.specs.Machine.{listed}
 use Rattle.model.specs.Questions.{list_ok}
 use Rattle.model.specs.declared.Header.{Header}
 use Rattle.laws.specs.Booleans.{and_left, and_right}
-use Rattle.session.specs.Listing.{list_of, list_asked, cells_listed}
-use Rattle.session.specs.declared.list.ListAnswer.TheVariants as answers
-use Rattle.beat.specs.Laying.{lay_of, list_fits, lay_asked}
-use Rattle.beat.specs.declared.laying.LayAnswer.TheVariants.{Cells, Refused}
+use Rattle.std.specs.Prelude.{Ok, Err}
+use Rattle.model.specs.Numbers.{number_of, answer_of}
+use Rattle.model.proofs.Numbers.{yes_means, no_means}
+use Rattle.model.specs.declared.questions.Question.{Question}
+use Rattle.model.specs.declared.questions.Question.TheVariants.{BeatsFew, ResultFits}
+use Rattle.session.specs.Listing.{count_words, list_asked, cells_listed}
+use Rattle.beat.specs.Laying.{list_fits, lay_asked}
 
 -- ---- question 7
 
@@ -37,46 +40,37 @@ list_passed h beats ws e =
     }
 
 module _ (h : Header) (beats : ℕ) (ws : List ℕ) where
-  counted_by : (k : ℕ) (t : Bool) → ◌≡◌ {A = ℕ × List ℕ} (0, k ∷ []) (cond t (0, cells_listed h beats ws ∷ []) (7, [])) → (t ≡ true) × (k ≡ cells_listed h beats ws)
-  counted_by k true e = (refl, ap (λ (p : ℕ × List ℕ). get_or p.1 0 0) e)
-  counted_by k false e = absurd (let z : ◌≡◌ {A = ℕ} 0 7 = ap (λ (p : ℕ × List ℕ). p.0) e in omega arith)
-
-  refused_by : (t : Bool) → ◌≡◌ {A = ℕ × List ℕ} (7, []) (cond t (0, cells_listed h beats ws ∷ []) (7, [])) → t ≡ false
-  refused_by true e = absurd (let z : ◌≡◌ {A = ℕ} 7 0 = ap (λ (p : ℕ × List ℕ). p.0) e in omega arith)
-  refused_by false e = refl
-
-  pub counted_means : (k : ℕ) → list_of (answers.Cells k) ≡ list_asked h beats ws → (list_ok h beats ws ≡ true) × (k ≡ cells_listed h beats ws)
+  counted_means : (k : ℕ) → answer_of count_words (Ok k) ≡ list_asked h beats ws → (list_ok h beats ws ≡ true) × (k ≡ cells_listed h beats ws)
   unfolding list_asked
-  counted_means k e = counted_by k (list_ok h beats ws) e
+  counted_means k e =
+      let y = yes_means (list_ok h beats ws) 7 (omega arith) e in
+      (y.0, ap (λ (p : ℕ × List ℕ). get_or p.1 0 0) y.1)
 
-  list_refused : list_of answers.Refused ≡ list_asked h beats ws → list_ok h beats ws ≡ false
+  list_refused : (q : Question) → answer_of count_words (Err q) ≡ list_asked h beats ws → (list_ok h beats ws ≡ false) × (number_of q ≡ 7)
   unfolding list_asked
-  list_refused e = refused_by (list_ok h beats ws) e
+  list_refused q e = no_means (list_ok h beats ws) 7 (cells_listed h beats ws ∷ []) q e
 
   -- ---- the answer
 
-  pub too_long : max_beats < beats → lay_of (Refused 6) ≡ lay_asked h beats ws
+  pub too_long : max_beats < beats → answer_of count_words (Err BeatsFew) ≡ lay_asked h beats ws
   unfolding lay_asked
   too_long above = rw (lt-leb beats max_beats above)
 
   module _ (few : beats ≤ max_beats) where
-    pub no_list : list_of answers.Refused ≡ list_asked h beats ws → lay_of (Refused 7) ≡ lay_asked h beats ws
+    pub no_list : (q : Question) → answer_of count_words (Err q) ≡ list_asked h beats ws → answer_of count_words (Err q) ≡ lay_asked h beats ws
     unfolding lay_asked
-    no_list e = rw (le-leb beats max_beats few, list_refused e)
+    no_list q e = let r = list_refused q e in rw (le-leb beats max_beats few, r.0, r.1)
 
-    module _ (k : ℕ) (e : list_of (answers.Cells k) ≡ list_asked h beats ws) where
-      pub used : 3 + length ws + 6 * k ≡ words_used (length ws / 4) k
-      used = omega (arith, (list_passed h beats ws (counted_means k e).0).whole)
-
+    module _ (k : ℕ) (e : answer_of count_words (Ok k) ≡ list_asked h beats ws) where
       by_room : (t : Bool) → leb (words_used (length ws / 4) k) h.words ≡ t → cond t (0, k ∷ []) (8, []) ≡ lay_asked h beats ws
       unfolding lay_asked list_fits
       by_room t f = rw (le-leb beats max_beats few, (counted_means k e).0, ← (counted_means k e).1, f)
 
-      pub no_room : leb (3 + length ws + 6 * k) h.words ≡ false → lay_of (Refused 8) ≡ lay_asked h beats ws
-      no_room f = by_room false (rw used at f)
+      pub no_room : leb (words_used (length ws / 4) k) h.words ≡ false → answer_of count_words (Err ResultFits) ≡ lay_asked h beats ws
+      no_room f = by_room false f
 
-      pub room : leb (3 + length ws + 6 * k) h.words ≡ true → lay_of (Cells k) ≡ lay_asked h beats ws
-      room f = by_room true (rw used at f)
+      pub room : leb (words_used (length ws / 4) k) h.words ≡ true → answer_of count_words (Ok k) ≡ lay_asked h beats ws
+      room f = by_room true f
 
   -- ---- what an answer tells
 
@@ -86,16 +80,11 @@ module _ (h : Header) (beats : ℕ) (ws : List ℕ) where
     pub cells : count ≡ cells_listed h beats ws
     pub fits : words_used (length ws / 4) count ≤ h.words
 
-  laid_by : (k : ℕ) (a b c : Bool) → leb beats max_beats ≡ a → list_ok h beats ws ≡ b → leb (words_used (length ws / 4) (cells_listed h beats ws)) h.words ≡ c
-      → ◌≡◌ {A = ℕ × List ℕ} (0, k ∷ []) (cond a (cond b (cond c (0, cells_listed h beats ws ∷ []) (8, [])) (7, [])) (6, [])) → Laid k
-  laid_by k true true true ea eb ec e =
-      let is : k ≡ cells_listed h beats ws = ap (λ (p : ℕ × List ℕ). get_or p.1 0 0) e in
-      record { few = leb-true _ _ ea; list = eb; cells = is; fits = rw is (leb-true _ _ ec) }
-  laid_by k true true false ea eb ec e = absurd (let z : ◌≡◌ {A = ℕ} 0 8 = ap (λ (p : ℕ × List ℕ). p.0) e in omega arith)
-  laid_by k true false c ea eb ec e = absurd (let z : ◌≡◌ {A = ℕ} 0 7 = ap (λ (p : ℕ × List ℕ). p.0) e in omega arith)
-  laid_by k false b c ea eb ec e = absurd (let z : ◌≡◌ {A = ℕ} 0 6 = ap (λ (p : ℕ × List ℕ). p.0) e in omega arith)
-
-  pub laid_means : (k : ℕ) → lay_of (Cells k) ≡ lay_asked h beats ws → Laid k
+  pub laid_means : (k : ℕ) → answer_of count_words (Ok k) ≡ lay_asked h beats ws → Laid k
   unfolding lay_asked list_fits
   laid_means k e =
-      laid_by k (leb beats max_beats) (list_ok h beats ws) (leb (words_used (length ws / 4) (cells_listed h beats ws)) h.words) refl refl refl e
+      let six = yes_means (leb beats max_beats) 6 (omega arith) e in
+      let seven = yes_means (list_ok h beats ws) 7 (omega arith) six.1 in
+      let eight = yes_means (leb (words_used (length ws / 4) (cells_listed h beats ws)) h.words) 8 (omega arith) seven.1 in
+      let is : k ≡ cells_listed h beats ws = ap (λ (p : ℕ × List ℕ). get_or p.1 0 0) eight.1 in
+      record { few = leb-true _ _ six.0; list = seven.0; cells = is; fits = rw is (leb-true _ _ eight.0) }

@@ -1,9 +1,8 @@
--- Lay: the number and the words, by the way that the call goes. Assumes nothing.
+-- The number and the words of a call, and of lay, by the way that the call goes. Assumes nothing.
 use mathlib.Core.Path.{◌≡◌, refl, sym, ap, ◌∙◌}
 use mathlib.Core.Bool.{Bool, true, false, cond, not, and-true}
 use mathlib.Core.List.{List, [], ◌∷◌}
-use Prim.Native.Nat.{ℕ, zero, suc, ◌/◌, ◌≤◌, ◌<◌}
-use native.Mathlib.Omega.{arith}
+use Prim.Native.Nat.{ℕ, ◌/◌, ◌≤◌, ◌<◌}
 use borrow.Author.Tests.{lt-ltb, eqb-false, not-true}
 use lib.Dec.{leb, ltb, eqb}
 use lib.ListN.{length}
@@ -15,16 +14,19 @@ use Rattle.model.specs.Session.{header_of, words_of_header, shelf_at, put_shelf}
 use Rattle.model.specs.Machine.{Call, lay_call, listed}
 use Rattle.model.specs.Questions.{header_ok, shelves_ok, beats_ok, list_ok, fits, results_fit, results, questions, number, put_all, written, after}
 use Rattle.model.specs.declared.Header.{Header}
-use Rattle.model.proofs.Headers.{InRange, in_range}
+use Rattle.model.proofs.Headers.{InRange, in_range, refused_means, valid_means}
 use Rattle.laws.specs.Accepted.{asked-in_turn}
 use Rattle.laws.specs.Healing.{notes_again}
-use Rattle.session.specs.Entering.{entry_of, entry_asked}
-use Rattle.session.specs.Listing.{cells_listed}
-use Rattle.session.specs.declared.header.Entry.TheVariants as entries
-use Rattle.session.proofs.Entries.{Entered}
+use Rattle.std.specs.Prelude.{Ok, Err}
+use Rattle.model.specs.Numbers.{number_of, answer_of}
+use Rattle.model.specs.Answers.{header_asked}
+use Rattle.model.proofs.Numbers.{kept}
+use Rattle.model.specs.declared.questions.Question.{Question}
+use Rattle.session.specs.Entering.{entry_asked}
+use Rattle.session.specs.Listing.{count_words, cells_listed}
+use Rattle.session.proofs.Entries.{Entered, entry_refused}
 use Rattle.laws.specs.Reading.{length_read}
-use Rattle.beat.specs.Laying.{lay_of, list_fits, lay_asked, laid_words, LayAsks}
-use Rattle.beat.specs.declared.laying.LayAnswer.TheVariants.{Cells, Refused}
+use Rattle.beat.specs.Laying.{list_fits, lay_asked, laid_words, LayAsks}
 use Rattle.beat.proofs.Asks.{list_passed, Laid}
 
 -- ---- any call
@@ -34,14 +36,31 @@ pub unlike : (i j : ℕ) → not (eqb i j) ≡ true → i ≡ j → ⊥
 unlike i j e = eqb-false i j (not-true (eqb i j) e)
 
 module _ (s : List ℕ) (c : Call) where
-  pub after_refused : (q : ℕ) → q ≡ number s c → 0 < q → s ≡ after s c
+  pub after_refused : (q : Question) → number_of q ≡ number s c → (number_of q ≡ number s c) × (s ≡ after s c)
   unfolding after
-  after_refused zero e more = absurd (omega arith)
-  after_refused (suc q) e more = rw (after, ← e)
+  after_refused q e = (e, kept q (number s c) e (written s c) s)
 
-  pub after-done : 0 ≡ number s c → {t : List ℕ} → t ≡ written s c → t ≡ after s c
+  pub after-done : 0 ≡ number s c → {t : List ℕ} → t ≡ written s c → (0 ≡ number s c) × (t ≡ after s c)
   unfolding after
-  after-done e f = rw (after, ← e) f
+  after-done e f = (e, rw (after, ← e) f)
+
+  -- ---- a call that is put question 1 and then others, whose number is `rest` of the header
+
+  pub no_header : (rest : ℕ) → number s c ≡ cond (header_ok (header_of s) (length s)) rest 1 → (q : Question)
+      → answer_of words_of_header (Err q) ≡ header_asked (header_of s) (length s) → (number_of q ≡ number s c) × (s ≡ after s c)
+  no_header rest is q e = let r = refused_means (header_of s) (length s) q e in after_refused q (r.1 ∙ sym (is ∙ rw r.0))
+
+  module _ (rest : Header → ℕ) (is : number s c ≡ cond (header_ok (header_of s) (length s)) (rest (header_of s)) 1) where
+    module _ {h : Header} (e : answer_of words_of_header (Ok h) ≡ header_asked (header_of s) (length s)) where
+      pub number-rest : number s c ≡ rest h
+      number-rest = let v = valid_means (header_of s) (length s) h e in is ∙ rw (v.0, v.1)
+
+      pub rest_refused : (q : Question) → number_of q ≡ rest h → (number_of q ≡ number s c) × (s ≡ after s c)
+      rest_refused q f = after_refused q (f ∙ sym number-rest)
+
+-- question 1 answered yes
+pub header_ok_lem : (s : List ℕ) {h : Header} → answer_of words_of_header (Ok h) ≡ header_asked (header_of s) (length s) → header_ok h (length s) ≡ true
+header_ok_lem s {h} e = let v = valid_means (header_of s) (length s) h e in rw v.1 v.0
 
 -- ---- a recording's own notes
 
@@ -107,32 +126,11 @@ module _ (s : List ℕ) (i beats : ℕ) (ws : List ℕ) where
   asked-number pos true false ec ed = rw (ec, ed)
   asked-number pos false d ec ed = rw ec
 
-  refused_pos : (q k : ℕ) (c d e : Bool) → ◌≡◌ {A = ℕ × List ℕ} (q, []) (cond c (cond d (cond e (0, k ∷ []) (8, [])) (7, [])) (6, [])) → 0 < q
-  refused_pos q k true true true e =
-      absurd (let z : ◌≡◌ {A = ℕ} 0 1 = ap (λ (p : ℕ × List ℕ). length p.1) e in omega arith)
-  refused_pos q k true true false e = let z : q ≡ 8 = ap (λ (p : ℕ × List ℕ). p.0) e in omega arith
-  refused_pos q k true false c e = let z : q ≡ 7 = ap (λ (p : ℕ × List ℕ). p.0) e in omega arith
-  refused_pos q k false b c e = let z : q ≡ 6 = ap (λ (p : ℕ × List ℕ). p.0) e in omega arith
-
-  asked_pos : (q : ℕ) → lay_of (Refused q) ≡ lay_asked h beats ws → 0 < q
-  unfolding lay_asked list_fits
-  asked_pos q e =
-      refused_pos q (cells_listed h beats ws) (leb beats max_beats) (list_ok h beats ws) (leb (words_used (length ws / 4) (cells_listed h beats ws)) h.words) e
-
   -- ---- refused by question 1 or 2
 
-  pub refused_entry : (q : ℕ) → entry_of (entries.Refused q) ≡ entry_asked s i → (q ≡ number s (lay_call i beats ws)) × (s ≡ after s (lay_call i beats ws))
-  unfolding entry_asked
-  refused_entry q e = go (header_ok h (length s)) (ltb i h.shelves) refl refl e
-    where
-      both : (n : ℕ) → q ≡ n → number s (lay_call i beats ws) ≡ n → 0 < n → (q ≡ number s (lay_call i beats ws)) × (s ≡ after s (lay_call i beats ws))
-      both n e f more = let g = e ∙ sym f in (g, after_refused s (lay_call i beats ws) q g (omega arith))
-
-      go : (a b : Bool) → header_ok h (length s) ≡ a → ltb i h.shelves ≡ b → ◌≡◌ {A = ℕ × List ℕ} (q, []) (cond a (cond b (0, words_of_header h) (2, [])) (1, []))
-          → (q ≡ number s (lay_call i beats ws)) × (s ≡ after s (lay_call i beats ws))
-      go true true ea eb e = absurd (let z : ◌≡◌ {A = ℕ} 0 4 = ap (λ (p : ℕ × List ℕ). length p.1) e in omega arith)
-      go true false ea eb e = both 2 (ap (λ (p : ℕ × List ℕ). p.0) e) (number_is ∙ rw (ea, eb)) (omega arith)
-      go false b ea eb e = both 1 (ap (λ (p : ℕ × List ℕ). p.0) e) (number_is ∙ rw ea) (omega arith)
+  pub refused_entry : (q : Question) → answer_of words_of_header (Err q) ≡ entry_asked s i
+      → (number_of q ≡ number s (lay_call i beats ws)) × (s ≡ after s (lay_call i beats ws))
+  refused_entry q e = after_refused s (lay_call i beats ws) q (entry_refused s i _ number_is q e)
 
   -- ---- questions 1 and 2 answered yes
 
@@ -157,21 +155,20 @@ module _ (s : List ℕ) (i beats : ℕ) (ws : List ℕ) where
         ∙ rw (entered.header, lt-ltb i h.shelves entered.below)
         (asked-number range.some-ticks (leb beats max_beats) (list_ok h beats ws) refl refl)
 
-    pub refused_asked : (q : ℕ) → lay_of (Refused q) ≡ lay_asked g beats ws → (q ≡ number s (lay_call i beats ws)) × (s ≡ after s (lay_call i beats ws))
+    pub refused_asked : (q : Question) → answer_of count_words (Err q) ≡ lay_asked g beats ws
+        → (number_of q ≡ number s (lay_call i beats ws)) × (s ≡ after s (lay_call i beats ws))
     refused_asked q e =
-        let e' : lay_of (Refused q) ≡ lay_asked h beats ws = rw entered.same at e in
-        let is : q ≡ number s (lay_call i beats ws) = ap (λ (p : ℕ × List ℕ). p.0) e' ∙ sym number-asked in
-        (is, after_refused s (lay_call i beats ws) q is (asked_pos q e'))
+        let e' : answer_of count_words (Err q) ≡ lay_asked h beats ws = rw entered.same at e in
+        after_refused s (lay_call i beats ws) q (ap (λ (p : ℕ × List ℕ). p.0) e' ∙ sym number-asked)
 
     laid : list_ok h beats ws ≡ true → written s (lay_call i beats ws) ≡ splice s (shelf_at h i) (laid_words h beats ws)
     unfolding written put_all put_shelf results
     laid list = ap (splice s (shelf_at h i)) (words_are h beats ws range.some-ticks list)
 
-    pub lay_done : {k : ℕ} → Laid g beats ws k → lay_of (Cells k) ≡ lay_asked g beats ws → {t : List ℕ} → t ≡ splice s (shelf_at g i) (laid_words g beats ws)
+    pub lay_done : {k : ℕ} → Laid g beats ws k → answer_of count_words (Ok k) ≡ lay_asked g beats ws → {t : List ℕ} → t ≡ splice s (shelf_at g i) (laid_words g beats ws)
         → (0 ≡ number s (lay_call i beats ws)) × (t ≡ after s (lay_call i beats ws))
     lay_done {k} l e {t} f =
-        let e' : lay_of (Cells k) ≡ lay_asked h beats ws = rw entered.same at e in
-        let is : 0 ≡ number s (lay_call i beats ws) = ap (λ (p : ℕ × List ℕ). p.0) e' ∙ sym number-asked in
+        let e' : answer_of count_words (Ok k) ≡ lay_asked h beats ws = rw entered.same at e in
         let list : list_ok h beats ws ≡ true = rw entered.same at l.list in
         let t-is : t ≡ splice s (shelf_at h i) (laid_words h beats ws) = rw entered.same at f in
-        (is, after-done s (lay_call i beats ws) is (t-is ∙ sym (laid list)))
+        after-done s (lay_call i beats ws) (ap (λ (p : ℕ × List ℕ). p.0) e' ∙ sym number-asked) (t-is ∙ sym (laid list))

@@ -4,21 +4,23 @@ use mathlib.Core.Bool.{Bool, true, false, cond, not, ◌&&◌, and-true}
 use mathlib.Core.List.{List, [], ◌∷◌}
 use Prim.Native.Nat.{ℕ, ◌+◌, ◌≤◌, ◌<◌}
 use native.Mathlib.Omega.{arith}
-use borrow.Author.Tests.{leb-true, ltb-true, le-leb, lt-leb, le-ltb, lt-ltb, eq-eqb, ne_eqb, not-true, not-false}
-use lib.Dec.{ltb, eqb}
+use borrow.Author.Tests.{leb-true, ltb-true}
+use lib.Dec.{leb, ltb, eqb}
 use lib.ListN.{length, get_or}
 use Rattle.words.specs.Splice.{splice}
 use Rattle.model.specs.Limits.{max_beats, max_delta, max_shelves, max_words}
 use Rattle.model.specs.Takes.{take_in, words_of, split_left, split_right}
-use Rattle.model.specs.Session.{header_of, shelf, shelf_at, put_shelf}
+use Rattle.model.specs.Session.{header_of, words_of_header, shelf, shelf_at, put_shelf}
 use Rattle.model.specs.Soundness.{sound_shelf}
 use Rattle.model.specs.Machine.{split_call}
-use Rattle.model.specs.Answers.{answer_of, header_asked}
-use Rattle.model.specs.Questions.{header_ok, shelves_ok, writes_differ, reads_sound, beat_within, results, put_all, first_no, number, written, after, take_at}
+use Rattle.std.specs.Prelude.{Ok}
+use Rattle.model.specs.Numbers.{number_of, answer_of}
+use Rattle.model.specs.declared.questions.Question.{Question}
+use Rattle.model.specs.Answers.{header_asked}
+use Rattle.model.specs.Questions.{header_ok, shelves_ok, writes_differ, reads_sound, beat_within, results, put_all, number, written, after, take_at}
 use Rattle.model.specs.declared.Header.{Header}
-use Rattle.model.specs.declared.HeaderAnswer.TheVariants as answers
-use Rattle.model.proofs.Headers.{InRange, in_range, refused_means, valid_means}
-use Rattle.laws.specs.Accepted.{asked-in_turn, yes_all}
+use Rattle.model.proofs.Headers.{InRange, in_range, valid_means}
+use Rattle.laws.specs.Accepted.{asked-first, asked-in_turn, yes_all}
 use Rattle.laws.specs.Booleans.{and_left, and_right}
 use Rattle.laws.specs.Reached.{split_number}
 use Rattle.laws.specs.Sound.{sound_beats}
@@ -26,35 +28,8 @@ use Rattle.cuts.specs.declared.halves.Half.{Half}
 use Rattle.cuts.specs.Halving.{left_half, right_half, half_of, HalfAsks}
 use Rattle.cuts.specs.BothHalves.{Sides, BothAsks}
 use Rattle.beat.specs.Splitting.{split_asked, SplitAsks}
-use Rattle.beat.proofs.Calls.{after_refused, after-done, unlike}
+use Rattle.beat.proofs.Calls.{after-done, unlike, header_ok_lem, number-rest, rest_refused}
 use Rattle.session.proofs.Sources.{beats_is, inside_session, place_asks}
-
--- ---- question 2 and question 3, by the way that the code goes
-
-module _ (K i l r : ℕ) where
-  pub first_above : K ≤ i → false ≡ ltb i K && (ltb l K && ltb r K)
-  first_above a = rw (le-ltb i K a)
-
-  module _ (b : i < K) where
-    pub second_above : K ≤ l → false ≡ ltb i K && (ltb l K && ltb r K)
-    second_above a = rw (lt-ltb i K b, le-ltb l K a)
-
-    pub third_is : l < K → ltb r K ≡ ltb i K && (ltb l K && ltb r K)
-    third_is a = rw (lt-ltb i K b, lt-ltb l K a)
-
-  pub shelf-below : {p : Bool} → p ≡ (ltb i K && (ltb l K && ltb r K)) → not p ≡ false → i < K
-  shelf-below {p} e t = ltb-true i K (and_left (ltb i K) (ltb l K && ltb r K) (sym e ∙ not-false p t))
-
-module _ (i l r : ℕ) where
-  pub left_is_right : l ≡ r → false ≡ not (eqb l r) && (not (eqb l i) && not (eqb r i))
-  left_is_right a = rw (eq-eqb l r a)
-
-  module _ (b : l ≡ r → ⊥) where
-    pub left_is_take : l ≡ i → false ≡ not (eqb l r) && (not (eqb l i) && not (eqb r i))
-    left_is_take a = rw (ne_eqb l r b, eq-eqb l i a)
-
-    pub right_and_take : (l ≡ i → ⊥) → not (eqb r i) ≡ not (eqb l r) && (not (eqb l i) && not (eqb r i))
-    right_and_take a = rw (ne_eqb l r b, ne_eqb l i a)
 
 -- ---- questions 2 to 5
 
@@ -69,7 +44,7 @@ module _ (h : Header) (s : List ℕ) (i k l r : ℕ) where
   sound = sound_shelf h (shelf h s i)
 
   abbrev within : Bool
-  within = beat_within h s i k
+  within = leb k (take_at h s i).beats
 
   abbrev asked : List (ℕ × Bool)
   asked = (2, below) ∷ (3, apart) ∷ (4, sound) ∷ (5, within) ∷ []
@@ -92,45 +67,9 @@ module _ (h : Header) (s : List ℕ) (i k l r : ℕ) where
   unfolding reads_sound
   q4 = and-true sound
 
-  asked_is : split_asked h s i k l r ≡ cond below (cond apart (cond sound (cond within 0 5) 4) 3) 2
-  unfolding split_asked
+  pub asked_is : split_asked h s i k l r ≡ cond below (cond apart (cond sound (cond within 0 5) 4) 3) 2
+  unfolding split_asked beat_within
   asked_is = rw (q2, q3, q4) (asked-in_turn asked)
-
-  -- the ways out
-  module _ {p : Bool} (e : p ≡ below) where
-    pub no_shelf : not p ≡ true → 2 ≡ split_asked h s i k l r
-    no_shelf t = sym (asked_is ∙ rw (← e, not-true p t))
-
-    module _ (u : not p ≡ false) {q : Bool} (f : q ≡ apart) where
-      pub same_shelf : not q ≡ true → 3 ≡ split_asked h s i k l r
-      same_shelf t = sym (asked_is ∙ rw (← e, not-false p u, ← f, not-true q t))
-
-      module _ (v : not q ≡ false) {o : Bool} (g : o ≡ sound) where
-        pub not_sound : not o ≡ true → 4 ≡ split_asked h s i k l r
-        not_sound t = sym (asked_is ∙ rw (← e, not-false p u, ← f, not-false q v, ← g, not-true o t))
-
-        module _ (w : not o ≡ false) where
-          by_beat : (b : Bool) → within ≡ b → cond b 0 5 ≡ split_asked h s i k l r
-          by_beat b x = sym (asked_is ∙ rw (← e, not-false p u, ← f, not-false q v, ← g, not-false o w, x))
-
-          pub too_late : within ≡ false → 5 ≡ split_asked h s i k l r
-          too_late x = by_beat false x
-
-          pub all_yes : within ≡ true → 0 ≡ split_asked h s i k l r
-          all_yes x = by_beat true x
-
--- ---- the shelf that is read
-
-module _ (h : Header) (s : List ℕ) (i : ℕ) (range : InRange h (length s)) (below-K : i < h.shelves) where
-  module _ {at : ℕ} (place : at ≡ shelf_at h i) where
-    module _ (k : ℕ) where
-      pub beat_behind : get_or s at 0 < k → beat_within h s i k ≡ false
-      unfolding beat_within
-      beat_behind less = lt-leb k (take_at h s i).beats (omega (arith, beats_is h s i range below-K place))
-
-      pub beat_inside : k ≤ get_or s at 0 → beat_within h s i k ≡ true
-      unfolding beat_within
-      beat_inside le = le-leb k (take_at h s i).beats (omega (arith, beats_is h s i range below-K place))
 
 -- ---- both halves
 
@@ -230,43 +169,26 @@ module _ {s : List ℕ} {h : Header} {i k l r : ℕ} (a : SplitAsks s h i k l r)
 
 -- ---- the call
 
--- question 1 answered yes
-pub header_ok_lem : (s : List ℕ) {h : Header} → answer_of (answers.Valid h) ≡ header_asked (header_of s) (length s) → header_ok h (length s) ≡ true
-header_ok_lem s {h} e = let v = valid_means (header_of s) (length s) h e in rw v.1 v.0
-
 module _ (s : List ℕ) (i k l r : ℕ) where
-  number_no : header_ok (header_of s) (length s) ≡ false → number s (split_call i k l r) ≡ 1
-  unfolding first_no
-  number_no e = split_number s i k l r ∙ rw e
+  pub number_is : number s (split_call i k l r) ≡ cond (header_ok (header_of s) (length s)) (split_asked (header_of s) s i k l r) 1
+  unfolding split_asked
+  number_is =
+      let h = header_of s in
+      let c = split_call i k l r in
+      split_number s i k l r
+      ∙ asked-first 1 (header_ok h (length s)) ((2, shelves_ok h c) ∷ (3, writes_differ c) ∷ (4, reads_sound h s c) ∷ (5, beat_within h s i k) ∷ [])
 
-  number-asked : header_ok (header_of s) (length s) ≡ true → number s (split_call i k l r) ≡ split_asked (header_of s) s i k l r
-  unfolding first_no split_asked
-  number-asked e = split_number s i k l r ∙ rw e
+  pub refused : {h : Header} → answer_of words_of_header (Ok h) ≡ header_asked (header_of s) (length s) → (q : Question) → number_of q ≡ split_asked h s i k l r
+      → (number_of q ≡ number s (split_call i k l r)) × (s ≡ after s (split_call i k l r))
+  refused e q f = rest_refused s (split_call i k l r) (λ h. split_asked h s i k l r) number_is e q f
 
-  pub no_header : answer_of answers.Refused ≡ header_asked (header_of s) (length s) → (1 ≡ number s (split_call i k l r)) × (s ≡ after s (split_call i k l r))
-  no_header e =
-      let is : 1 ≡ number s (split_call i k l r) = sym (number_no (refused_means (header_of s) (length s) e)) in
-      (is, after_refused s (split_call i k l r) 1 is (omega arith))
+  module _ {h : Header} (e : answer_of words_of_header (Ok h) ≡ header_asked (header_of s) (length s)) where
+    pub split_asks : 0 ≡ split_asked h s i k l r → SplitAsks s h i k l r
+    split_asks z = record { header = header_ok_lem s e; asked = sym z }
 
-  module _ {h : Header} (e : answer_of (answers.Valid h) ≡ header_asked (header_of s) (length s)) where
-    ok : header_ok (header_of s) (length s) ≡ true
-    ok = (valid_means (header_of s) (length s) h e).0
-
-    same : h ≡ header_of s
-    same = (valid_means (header_of s) (length s) h e).1
-
-    module _ {no : ℕ} (f : no ≡ split_asked h s i k l r) where
-      number_is : no ≡ number s (split_call i k l r)
-      number_is = f ∙ rw same (sym (number-asked ok))
-
-      pub refused : (no ≡ 0 → ⊥) → (no ≡ number s (split_call i k l r)) × (s ≡ after s (split_call i k l r))
-      refused more = (number_is, after_refused s (split_call i k l r) no number_is (omega arith))
-
-      pub split_asks : no ≡ 0 → SplitAsks s h i k l r
-      split_asks z = record { header = header_ok_lem s e; asked = sym f ∙ z }
-
-      pub done : no ≡ 0 → {t : List ℕ} → t ≡ put_all h s (results h s (split_call i k l r)) → (0 ≡ number s (split_call i k l r)) × (t ≡ after s (split_call i k l r))
-      unfolding written
-      done z g =
-          let is : 0 ≡ number s (split_call i k l r) = sym z ∙ number_is in
-          (is, after-done s (split_call i k l r) is (g ∙ ap (λ (g : Header). put_all g s (results g s (split_call i k l r))) same))
+    pub done : 0 ≡ split_asked h s i k l r → {t : List ℕ} → t ≡ put_all h s (results h s (split_call i k l r))
+        → (0 ≡ number s (split_call i k l r)) × (t ≡ after s (split_call i k l r))
+    unfolding written
+    done z g =
+        after-done s (split_call i k l r) (z ∙ sym (number-rest s (split_call i k l r) (λ h. split_asked h s i k l r) number_is e))
+        (g ∙ ap (λ (g : Header). put_all g s (results g s (split_call i k l r))) (valid_means (header_of s) (length s) h e).1)

@@ -1,4 +1,4 @@
--- Lay: questions 6, 7 and 8 with the paper's number and values for each case of the answer, and the words laid. Assumes nothing.
+-- Lay: questions 6, 7 and 8 with the paper's number and values of the answer, and the words laid. Assumes nothing.
 use Rattle.std.specs.Prelude.{◌≡◌, true, cond, List, [], ◌∷◌, ℕ, ◌/◌, ◌≤◌, ◌<◌, leb, length}
 use Rattle.model.specs.Lists.{gather}
 use Rattle.model.specs.Limits.{max_beats}
@@ -8,19 +8,12 @@ use Rattle.model.specs.Machine.{listed}
 use Rattle.model.specs.Questions.{header_ok, list_ok}
 use Rattle.model.specs.declared.Header.{Header}
 use Rattle.session.specs.Listing.{cells_listed}
-use Rattle.beat.specs.declared.laying.LayAnswer.{LayAnswer}
-use Rattle.beat.specs.declared.laying.LayAnswer.TheVariants.{Cells, Refused}
-
--- A list that can be laid is 0 with the number of its cells; a refusal is its number with nothing.
-abbrev pub lay_of : LayAnswer → ℕ × List ℕ
-lay_of (Cells count) = (0, count ∷ [])
-lay_of (Refused q) = (q, [])
 
 -- 8. Do n, N and C, the list's notes and their cells fit W words?
 unfoldable pub list_fits : Header → List ℕ → ℕ → ℕ × List ℕ
 list_fits h ws count = cond (leb (words_used (length ws / 4) count) h.words) (0, count ∷ []) (8, [])
 
--- Questions 6, 7 and 8, in this order.
+-- Questions 6, 7 and 8, in this order: 0 with the number of the list's cells, or a refusal's number with nothing.
 unfoldable pub lay_asked : Header → ℕ → List ℕ → ℕ × List ℕ
 unfolding list_ok cells_listed list_fits
 lay_asked h beats ws =

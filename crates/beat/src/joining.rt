@@ -3,32 +3,21 @@ ghost use Rattle.std.specs.Prelude.{◌≡◌, true, not, ◌&&◌, ◌<◌, eqb
 ghost use Rattle.model.specs.Session.{shelf};
 ghost use Rattle.model.specs.Soundness.{sound_shelf};
 ghost use Rattle.model.specs.Machine.{join_call};
+ghost use Rattle.model.specs.Numbers.{answer_number};
 ghost use Rattle.model.specs.Questions.{header_ok, number, after};
 ghost use Rattle.beat.specs.Joining.{join_asked};
 
-use crate::splitting;
+use crate::shelves;
 use cuts::{counting, joined};
-use model::{Header, HeaderAnswer};
-use session::{header, sound};
+use model::Header;
+use model::questions::Question;
+use session::header;
 
 // Question 3: does the result's shelf differ from both takes'?
 fn differs(first: u32, second: u32, res: u32) -> bool
     ensures { result ≡ (not (eqb res first) && not (eqb res second)) }
 {
-    if res == first {
-        return false;
-    }
-    res != second
-}
-
-// Is a shelf sound?
-fn is_sound(s: &[u32], h: Header, take: u32) -> bool
-    requires { (header_ok h (length s.now) ≡ true) × (take < h.shelves) }
-    ensures { result ≡ sound_shelf h (shelf h s.now take) }
-{
-    let at = header::shelf_at(h, take);
-    let end = at + (h.words as usize);
-    sound::sound(h, &s[at..end])
+    res != first && res != second
 }
 
 // Question 4: are both shelves sound? One that is both takes' is looked at once.
@@ -36,53 +25,40 @@ fn are_sound(s: &[u32], h: Header, first: u32, second: u32) -> bool
     requires { (header_ok h (length s.now) ≡ true) × (first < h.shelves) × (second < h.shelves) }
     ensures { result ≡ (sound_shelf h (shelf h s.now first) && sound_shelf h (shelf h s.now second)) }
 {
-    if !is_sound(s, h, first) {
-        return false;
-    }
-    if first == second {
-        return true;
-    }
-    is_sound(s, h, second)
+    shelves::is_sound(s, h, first) && (first == second || shelves::is_sound(s, h, second))
 }
 
-// Questions 2, 3, 4, 6 and 8: the number of the first that is answered no, or 0.
-fn asked(s: &[u32], h: Header, first: u32, second: u32, res: u32) -> u32
+// Questions 2, 3, 4, 6 and 8: the first that is answered no.
+#[tactic(auto, using(crate::proofs::Joins::asked_is))]
+fn asked(s: &[u32], h: Header, first: u32, second: u32, res: u32) -> Result<(), Question>
     requires { header_ok h (length s.now) ≡ true }
-    ensures { result ≡ join_asked h s.now first second res }
+    ensures { answer_number result ≡ join_asked h s.now first second res }
 {
-    if !splitting::shelves_ok(h, first, second, res) {
-        return 2;
+    if !shelves::shelves_ok(h, first, second, res) {
+        return Err(Question::ShelvesBelow);
     }
     if !differs(first, second, res) {
-        return 3;
+        return Err(Question::ShelvesDiffer);
     }
     if !are_sound(s, h, first, second) {
-        return 4;
+        return Err(Question::ShelvesSound);
     }
     if Header::BEATS < joined::beats_at(s, h, first) + joined::beats_at(s, h, second) {
-        return 6;
+        return Err(Question::BeatsFew);
     }
     if !counting::join_fits(s, h, first, second) {
-        return 8;
+        return Err(Question::ResultFits);
     }
-    0
+    Ok(())
 }
 
-// Joins the takes in two shelves, the second behind the first, into a third. Returns the number of the first question answered no, or 0.
-pub fn take_join(session: &mut [u32], first: u32, second: u32, res: u32) -> u32
-    ensures number { result ≡ number session.old (join_call first second res) }
+// Joins the takes in two shelves, the second behind the first, into a third. Refuses with the first question that is answered no.
+pub fn take_join(session: &mut [u32], first: u32, second: u32, res: u32) -> Result<(), Question>
+    ensures number { answer_number result ≡ number session.old (join_call first second res) }
     ensures words { session.new ≡ after session.old (join_call first second res) }
 {
-    let answer = header::read(session);
-    match answer {
-        HeaderAnswer::Valid(h) => {
-            let no = asked(session, h, first, second, res);
-            if no != 0 {
-                return no;
-            }
-            joined::put_joined(session, h, first, second, res);
-            0
-        }
-        HeaderAnswer::Refused => 1,
-    }
+    let header = header::read(session)?;
+    asked(session, header, first, second, res)?;
+    joined::put_joined(session, header, first, second, res);
+    Ok(())
 }

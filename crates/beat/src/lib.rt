@@ -5,4 +5,5 @@ pub mod cells;
 pub mod joining;
 pub mod laying;
 pub mod opening;
+pub mod shelves;
 pub mod splitting;

@@ -2,29 +2,26 @@
 ghost use Rattle.std.specs.Prelude.{◌≡◌, length, true};
 ghost use Rattle.model.specs.Session.{fresh_words};
 ghost use Rattle.model.specs.Machine.{open_call};
+ghost use Rattle.model.specs.Numbers.{answer_number};
 ghost use Rattle.model.specs.Questions.{header_ok, number, after};
 
-use model::{Header, HeaderAnswer};
+use model::Header;
+use model::questions::Question;
 
-// Writes δ, ε, K, W and zeros. Returns 1, and changes nothing, where they are out of range or the list is not as long as they say.
+// Writes δ, ε, K, W and zeros. Refuses, and changes nothing, where they are out of range or the list is not as long as they say.
 pub fn take_open(
     session: &mut [u32],
     delta: u32,
     epsilon: u32,
     shelves: u32,
     shelf_words: u32,
-) -> u32
-    ensures number { result ≡ number session.old (open_call (record { delta = delta; epsilon = epsilon; shelves = shelves; words = shelf_words })) }
+) -> Result<(), Question>
+    ensures number { answer_number result ≡ number session.old (open_call (record { delta = delta; epsilon = epsilon; shelves = shelves; words = shelf_words })) }
     ensures words { session.new ≡ after session.old (open_call (record { delta = delta; epsilon = epsilon; shelves = shelves; words = shelf_words })) }
 {
-    let answer = Header::new(delta, epsilon, shelves, shelf_words, session.len());
-    match answer {
-        HeaderAnswer::Valid(h) => {
-            put_fresh(session, h);
-            0
-        }
-        HeaderAnswer::Refused => 1,
-    }
+    let header = Header::new(delta, epsilon, shelves, shelf_words, session.len())?;
+    put_fresh(session, header);
+    Ok(())
 }
 
 // The header, and every shelf empty: zeros to the end.

@@ -1,59 +1,42 @@
 // Split: the beats of a take before a beat go to one shelf, the others to another.
-ghost use Rattle.std.specs.Prelude.{◌≡◌, true, not, ◌&&◌, eqb, ltb, length};
+ghost use Rattle.std.specs.Prelude.{◌≡◌, true, not, ◌&&◌, eqb, length};
 ghost use Rattle.model.specs.Machine.{split_call};
+ghost use Rattle.model.specs.Numbers.{answer_number};
 ghost use Rattle.model.specs.Questions.{header_ok, results, put_all, number, after};
 ghost use Rattle.beat.specs.Splitting.{split_asked, SplitAsks};
 
-use cuts::halves;
-use model::{Header, HeaderAnswer};
-use session::{header, sound};
-
-// Question 2: are the three shelves below K?
-pub fn shelves_ok(h: Header, take: u32, left: u32, right: u32) -> bool
-    ensures { result ≡ (ltb take h.shelves && (ltb left h.shelves && ltb right h.shelves)) }
-{
-    if h.shelves <= take {
-        return false;
-    }
-    if h.shelves <= left {
-        return false;
-    }
-    right < h.shelves
-}
+use crate::shelves;
+use cuts::{halves, joined};
+use model::Header;
+use model::questions::Question;
+use session::header;
 
 // Question 3: are the three shelves different?
 fn differ(take: u32, left: u32, right: u32) -> bool
     ensures { result ≡ (not (eqb left right) && (not (eqb left take) && not (eqb right take))) }
 {
-    if left == right {
-        return false;
-    }
-    if left == take {
-        return false;
-    }
-    right != take
+    left != right && left != take && right != take
 }
 
-// Questions 2 to 5: the number of the first that is answered no, or 0.
-fn asked(s: &[u32], h: Header, take: u32, beat: u32, left: u32, right: u32) -> u32
+// Questions 2 to 5: the first that is answered no.
+#[tactic(auto, using(crate::proofs::Splits::asked_is))]
+fn asked(s: &[u32], h: Header, take: u32, beat: u32, left: u32, right: u32) -> Result<(), Question>
     requires { header_ok h (length s.now) ≡ true }
-    ensures { result ≡ split_asked h s.now take beat left right }
+    ensures { answer_number result ≡ split_asked h s.now take beat left right }
 {
-    if !shelves_ok(h, take, left, right) {
-        return 2;
+    if !shelves::shelves_ok(h, take, left, right) {
+        return Err(Question::ShelvesBelow);
     }
     if !differ(take, left, right) {
-        return 3;
+        return Err(Question::ShelvesDiffer);
     }
-    let at = header::shelf_at(h, take);
-    let end = at + (h.words as usize);
-    if !sound::sound(h, &s[at..end]) {
-        return 4;
+    if !shelves::is_sound(s, h, take) {
+        return Err(Question::ShelvesSound);
     }
-    if s[at] < beat {
-        return 5;
+    if joined::beats_at(s, h, take) < beat {
+        return Err(Question::BeatWithin);
     }
-    0
+    Ok(())
 }
 
 // Both halves of a take whose questions are answered yes. Each fits its shelf, by a law, so question 8 is not put.
@@ -68,22 +51,20 @@ fn put_halves(s: &mut [u32], h: Header, take: u32, beat: u32, left: u32, right: 
     halves::put_both(s, h, before, behind, take, left, right);
 }
 
-// Splits a take at a beat: its beats before that beat go to the left shelf, the others to the right shelf. Returns the number of the
-// first question answered no, or 0.
-pub fn take_split(session: &mut [u32], take: u32, beat: u32, left: u32, right: u32) -> u32
-    ensures number { result ≡ number session.old (split_call take beat left right) }
+// Splits a take at a beat: its beats before that beat go to the left shelf, the others to the right shelf. Refuses with the first
+// question that is answered no.
+pub fn take_split(
+    session: &mut [u32],
+    take: u32,
+    beat: u32,
+    left: u32,
+    right: u32,
+) -> Result<(), Question>
+    ensures number { answer_number result ≡ number session.old (split_call take beat left right) }
     ensures words { session.new ≡ after session.old (split_call take beat left right) }
 {
-    let answer = header::read(session);
-    match answer {
-        HeaderAnswer::Valid(h) => {
-            let no = asked(session, h, take, beat, left, right);
-            if no != 0 {
-                return no;
-            }
-            put_halves(session, h, take, beat, left, right);
-            0
-        }
-        HeaderAnswer::Refused => 1,
-    }
+    let header = header::read(session)?;
+    asked(session, header, take, beat, left, right)?;
+    put_halves(session, header, take, beat, left, right);
+    Ok(())
 }

@@ -24,9 +24,12 @@ use Rattle.midi.specs.Numbers.{word32}
 use Rattle.midi.specs.Reading.{FileAnswer, refused, read, read_track, MTrk, header_there, header_fits, chunk_there, Chunk, track_from, read_file}
 use Rattle.midi.proofs.Branches.{by_test}
 use Rattle.midi.proofs.Recordings.{track-sound, Sound, refused_number}
-use Rattle.session.proofs.Entries.{Entered}
-use Rattle.session.specs.Entering.{entry_of, entry_asked}
-use Rattle.session.specs.declared.header.Entry.TheVariants as entries
+use Rattle.session.proofs.Entries.{Entered, entry_refused}
+use Rattle.std.specs.Prelude.{Err}
+use Rattle.model.specs.Numbers.{number_of, answer_of}
+use Rattle.model.proofs.Numbers.{kept}
+use Rattle.model.specs.declared.questions.Question.{Question}
+use Rattle.session.specs.Entering.{entry_asked}
 use Rattle.reader.specs.Chunks.{TrackPlace, refusal, bytes, chunk_place, track_place, read_place}
 use Rattle.reader.specs.Counting.{recording, summary, Times, CountsOf}
 use Rattle.reader.specs.Counting as counts
@@ -161,24 +164,12 @@ module _ (s : List ℕ) (i : ℕ) (file : List ℕ) where
   unfolding load_number load_questions answer_number
   load_is = rw (asked-first, asked-first)
 
-  loaded_refused : (q : ℕ) → load_number s i file ≡ q → 0 < q → Loaded s i file q s
-  unfolding load_after
-  loaded_refused zero e more = absurd (omega arith)
-  loaded_refused (suc q) e more = (sym e, rw (load_after, e))
-
   -- refused by question 1 or 2
-  pub load_refused : (q : ℕ) → entry_of (entries.Refused q) ≡ entry_asked s i → Loaded s i file q s
-  unfolding entry_asked
-  load_refused q e = go (header_ok g (length s)) (ltb i g.shelves) refl refl e
-    where
-      both : (n : ℕ) → q ≡ n → load_number s i file ≡ n → 0 < n → Loaded s i file q s
-      both n e f more = loaded_refused q (f ∙ sym e) (omega arith)
-
-      go : (a b : Bool) → header_ok g (length s) ≡ a → ltb i g.shelves ≡ b
-          → ◌≡◌ {A = ℕ × List ℕ} (q, []) (cond a (cond b (0, words_of_header g) (2, [])) (1, [])) → Loaded s i file q s
-      go true true ea eb e = absurd (let z : ◌≡◌ {A = ℕ} 0 4 = ap (λ (p : ℕ × List ℕ). length p.1) e in omega arith)
-      go true false ea eb e = both 2 (ap (λ (p : ℕ × List ℕ). p.0) e) (load_is ∙ rw (ea, eb)) (omega arith)
-      go false b ea eb e = both 1 (ap (λ (p : ℕ × List ℕ). p.0) e) (load_is ∙ rw ea) (omega arith)
+  pub load_refused : (q : Question) → answer_of words_of_header (Err q) ≡ entry_asked s i → Loaded s i file (number_of q) s
+  unfolding load_after
+  load_refused q e =
+      let is : number_of q ≡ load_number s i file = entry_refused s i _ load_is q e in
+      (is, kept q (load_number s i file) is (loaded g s i (read_file g.delta file)) s)
 
   -- questions 1 and 2 answered yes
   module _ {h : Header} (e : Entered s i h) where

@@ -2,7 +2,7 @@
 use mathlib.Core.Path.{◌≡◌, refl, sym, ap, ◌∙◌}
 use mathlib.Core.Bool.{Bool, true, false, cond, not}
 use mathlib.Core.List.{List, [], ◌∷◌}
-use Prim.Native.Nat.{ℕ, zero, suc, ◌+◌, ◌-◌, ◌≤◌, ◌<◌}
+use Prim.Native.Nat.{ℕ, ◌+◌, ◌-◌, ◌≤◌, ◌<◌}
 use native.Mathlib.Nat.{not-suc-le-zero}
 use native.Mathlib.Omega.{arith}
 use borrow.Author.Tests.{lt-ltb, lt-leb, not-true, not-false}
@@ -17,10 +17,14 @@ use Rattle.model.specs.declared.Header.{Header}
 use Rattle.model.proofs.Headers.{InRange, in_range}
 use Rattle.laws.specs.Accepted.{asked-in_turn}
 use Rattle.midi.specs.Writing.{header_bytes, track_bytes, file_bytes}
-use Rattle.session.proofs.Entries.{Entered}
+use Rattle.session.proofs.Entries.{Entered, entry_refused}
 use Rattle.session.proofs.Sources.{part_is, part_long}
-use Rattle.session.specs.Entering.{entry_of, entry_asked}
-use Rattle.session.specs.declared.header.Entry.TheVariants as entries
+use Rattle.std.specs.Prelude.{Err}
+use Rattle.model.specs.Numbers.{number_of, answer_of}
+use Rattle.model.proofs.Numbers.{kept}
+use Rattle.model.specs.declared.questions.Question.{Question}
+use Rattle.model.specs.declared.questions.Question.TheVariants.{ShelvesSound, FileFits}
+use Rattle.session.specs.Entering.{entry_asked}
 use Rattle.file.specs.Calls.{shelf_file, file_fits, write_questions, write_number, write_count, write_output}
 use Rattle.writer.proofs.Parts.{file-some}
 use Rattle.writer.proofs.Written.{header-length}
@@ -32,10 +36,11 @@ abbrev pub Wrote : List ℕ → ℕ → List ℕ → ℕ → ℕ → List ℕ �
 Wrote s i out number count after = (number ≡ write_number s i (length out)) × ((count ≡ write_count s i (length out)) × (after ≡ write_output s i out))
 
 module _ (s : List ℕ) (i : ℕ) (out : List ℕ) where
-  wrote_refused : (q : ℕ) → q ≡ write_number s i (length out) → 0 < q → Wrote s i out q 0 out
+  wrote_refused : (q : Question) → number_of q ≡ write_number s i (length out) → Wrote s i out (number_of q) 0 out
   unfolding write_count write_output
-  wrote_refused zero e more = absurd (omega arith)
-  wrote_refused (suc q) e more = (e, (rw (write_count, ← e), rw (write_output, ← e)))
+  wrote_refused q e =
+      let n = write_number s i (length out) in
+      (e, (kept q n e (length (shelf_file s i)) 0, kept q n e (splice out 0 (shelf_file s i)) out))
 
   wrote_done : 0 ≡ write_number s i (length out) → {count : ℕ} {after : List ℕ} → count ≡ length (shelf_file s i) → after ≡ splice out 0 (shelf_file s i) → Wrote s i out 0 count after
   unfolding write_count write_output
@@ -51,18 +56,8 @@ module _ (s : List ℕ) (i room : ℕ) where
 
 -- ---- refused by question 1 or 2
 
-pub write_refused : (s : List ℕ) (i : ℕ) (out : List ℕ) (q : ℕ) → entry_of (entries.Refused q) ≡ entry_asked s i → Wrote s i out q 0 out
-unfolding entry_asked
-write_refused s i out q e = go (header_ok (header_of s) (length s)) (ltb i (header_of s).shelves) refl refl e
-  where
-    both : (n : ℕ) → q ≡ n → write_number s i (length out) ≡ n → 0 < n → Wrote s i out q 0 out
-    both n e f more = wrote_refused s i out q (e ∙ sym f) (omega arith)
-
-    go : (a b : Bool) → header_ok (header_of s) (length s) ≡ a → ltb i (header_of s).shelves ≡ b
-        → ◌≡◌ {A = ℕ × List ℕ} (q, []) (cond a (cond b (0, words_of_header (header_of s)) (2, [])) (1, [])) → Wrote s i out q 0 out
-    go true true ea eb e = absurd (let z : ◌≡◌ {A = ℕ} 0 4 = ap (λ (p : ℕ × List ℕ). length p.1) e in omega arith)
-    go true false ea eb e = both 2 (ap (λ (p : ℕ × List ℕ). p.0) e) (number_is s i (length out) ∙ rw (ea, eb)) (omega arith)
-    go false b ea eb e = both 1 (ap (λ (p : ℕ × List ℕ). p.0) e) (number_is s i (length out) ∙ rw ea) (omega arith)
+pub write_refused : (s : List ℕ) (i : ℕ) (out : List ℕ) (q : Question) → answer_of words_of_header (Err q) ≡ entry_asked s i → Wrote s i out (number_of q) 0 out
+write_refused s i out q e = wrote_refused s i out q (entry_refused s i _ (number_is s i (length out)) q e)
 
 -- ---- no file is shorter than its header
 
@@ -91,13 +86,13 @@ module _ (s : List ℕ) (i : ℕ) (h : Header) (e : Entered s i h) (out : List �
       ∙ ap (λ (f : List ℕ). cond (sound_shelf h (shelf h s i)) (cond (leb (length f) (length out)) 0 15) 4) (sym file_same))
 
   pub write_unsound : {o : Bool} → o ≡ sound_shelf h (shelf h s i) → not o ≡ true → Wrote s i out 4 0 out
-  write_unsound {o} f t = wrote_refused s i out 4 (sym (entered_number ∙ rw (sym f ∙ not-true o t))) (omega arith)
+  write_unsound {o} f t = wrote_refused s i out ShelvesSound (sym (entered_number ∙ rw (sym f ∙ not-true o t)))
 
   -- the output is shorter than the header of a file
   pub write_short : {o : Bool} → o ≡ sound_shelf h (shelf h s i) → o ≡ true → length out < 22 → Wrote s i out 15 0 out
   write_short f t short =
-      wrote_refused s i out 15
-      (sym (entered_number ∙ rw (sym f ∙ t, lt-leb (length file) (length out) (omega (arith, short, file_long h (shelf h s i)))))) (omega arith)
+      wrote_refused s i out FileFits
+      (sym (entered_number ∙ rw (sym f ∙ t, lt-leb (length file) (length out) (omega (arith, short, file_long h (shelf h s i))))))
 
   module _ {o : Bool} (f : o ≡ sound_shelf h (shelf h s i)) (t : not o ≡ false) (a : PartAsks h (shelf h s i)) {r : ℕ} {after : List ℕ}
       (counts : r ≡ count_of file out) (leaves : after ≡ output_of file out) where
@@ -109,7 +104,7 @@ module _ (s : List ℕ) (i : ℕ) (h : Header) (e : Entered s i h) (out : List �
       where
         go : (b : Bool) → leb (length file) (length out) ≡ b → Wrote s i out 15 0 after
         go true x = let l : r ≡ length file = counts ∙ rw x in absurd (not-suc-le-zero {n = 0} (omega (arith, z, l, file-some h (shelf h s i) a)))
-        go false x = let l : after ≡ out = leaves ∙ rw x in rw l (wrote_refused s i out 15 (sym (sound-number ∙ rw x)) (omega arith))
+        go false x = let l : after ≡ out = leaves ∙ rw x in rw l (wrote_refused s i out FileFits (sym (sound-number ∙ rw x)))
 
     pub write_done : (r ≡ 0 → ⊥) → Wrote s i out 0 r after
     write_done d = go (leb (length file) (length out)) refl

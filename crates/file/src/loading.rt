@@ -1,7 +1,5 @@
 // Load: a file's notes are laid.
-ghost use Rattle.std.specs.Prelude.{◌≡◌, ◌≤◌, leb};
-ghost use Rattle.model.specs.Limits.{max_words};
-ghost use Rattle.model.specs.Takes.{words_used};
+ghost use Rattle.std.specs.Prelude.{◌≡◌};
 ghost use Rattle.midi.specs.Reading.{read_track};
 ghost use Rattle.file.specs.Calls.{loaded, load_number, load_after};
 ghost use Rattle.file.specs.Loading.{answer_number, answer_after, ShelfAsks, RecordingAsks};
@@ -11,23 +9,7 @@ use model::Header;
 use reader::chunks::Found;
 use reader::counting::Counted;
 use reader::{chunks, counting, placing};
-use session::header::Entry;
-use session::{header, shelf};
-
-// Question 8: do the three counts, so many notes and so many cells fit a shelf?
-fn fits(room: u32, notes: u64, cells: u64) -> bool
-    requires { room ≤ max_words }
-    ensures { result ≡ leb (words_used notes cells) room }
-{
-    let words = room as u64;
-    if words < notes {
-        return false;
-    }
-    if words < cells {
-        return false;
-    }
-    3 + 4 * notes + 6 * cells <= words
-}
+use session::{header, room, shelf};
 
 // A recording that fits is laid: its notes, read again, each at its place; their cells behind them, the counts ahead and zeros to the shelf's end.
 fn put_recording(
@@ -63,7 +45,7 @@ fn load_track(s: &mut [u32], h: Header, shelf: u32, track: &[u8]) -> u32
             notes,
             cells,
         } => {
-            if !fits(h.words, notes, cells) {
+            if !room::fits(h.words, notes, cells) {
                 return 8;
             }
             put_recording(
@@ -89,13 +71,13 @@ pub fn take_load(session: &mut [u32], shelf: u32, file: &[u8]) -> u32
 {
     let entry = header::enter(session, shelf);
     match entry {
-        Entry::Granted(h) => {
+        Ok(h) => {
             let found = chunks::track_in(h.delta, file);
             match found {
                 Found::Track { at, end } => load_track(session, h, shelf, &file[at..end]),
                 Found::Refused(q) => q,
             }
         }
-        Entry::Refused(q) => q,
+        Err(q) => u32::from(q),
     }
 }

@@ -7,6 +7,7 @@ ghost use Rattle.frames.specs.Calling.{Changed, Wrote, Opened};
 
 use beat::{joining, laying, opening, splitting};
 use file::{loading, writing};
+use model::questions::answer_number;
 
 // The number of a malformed line.
 const MALFORMED: u32 = 255;
@@ -57,12 +58,12 @@ pub fn lay(session: &mut [u32], bytes: &[u8]) -> u32
         return MALFORMED;
     }
     let count = read_words(bytes, 2, &mut words);
-    laying::take_lay(
+    answer_number(laying::take_lay(
         session,
         word_at(bytes, 0),
         word_at(bytes, 4),
         &words[..count],
-    )
+    ))
 }
 
 // Split: shelf, k, left, right.
@@ -72,13 +73,13 @@ pub fn split(session: &mut [u32], bytes: &[u8]) -> u32
     if bytes.len() != 16 {
         return MALFORMED;
     }
-    splitting::take_split(
+    answer_number(splitting::take_split(
         session,
         word_at(bytes, 0),
         word_at(bytes, 4),
         word_at(bytes, 8),
         word_at(bytes, 12),
-    )
+    ))
 }
 
 // Join: first, second, result.
@@ -88,12 +89,12 @@ pub fn join(session: &mut [u32], bytes: &[u8]) -> u32
     if bytes.len() != 12 {
         return MALFORMED;
     }
-    joining::take_join(
+    answer_number(joining::take_join(
         session,
         word_at(bytes, 0),
         word_at(bytes, 4),
         word_at(bytes, 8),
-    )
+    ))
 }
 
 // Load: shelf, then the bytes of a file.
@@ -125,7 +126,7 @@ pub fn write(session: &[u32], bytes: &[u8], output: &mut [u8]) -> Done
         };
     }
     let mut count = 0u64;
-    let number = writing::take_write(session, word_at(bytes, 0), output, &mut count);
+    let number = answer_number(writing::take_write(session, word_at(bytes, 0), output, &mut count));
     Done {
         number,
         size: count as usize,
@@ -152,7 +153,13 @@ fn open_session(
         };
     }
     let size = asked as usize;
-    let number = opening::take_open(&mut words[..size], delta, epsilon, shelves, shelf_words);
+    let number = answer_number(opening::take_open(
+        &mut words[..size],
+        delta,
+        epsilon,
+        shelves,
+        shelf_words,
+    ));
     if number != 0 {
         return Done { number, size: held };
     }

@@ -1,18 +1,20 @@
--- Question 1 in parts: the ranges of δ and ε, those of K and W, the length. Assumes nothing.
+-- Question 1 in parts: the ranges of δ and ε, those of K and W, the length; what its answer tells. Assumes nothing.
 use mathlib.Core.Path.{◌≡◌, refl, ap}
-use mathlib.Core.Bool.{Bool, true, false, cond, ◌&&◌}
-use mathlib.Core.List.{List, []}
-use Prim.Native.Nat.{ℕ, ◌*◌, ◌≤◌}
-use native.Mathlib.Nat.{mul-le-mul}
+use mathlib.Core.Bool.{Bool, true, false, ◌&&◌}
+use mathlib.Core.List.{List}
+use Prim.Native.Nat.{ℕ, ◌≤◌}
 use native.Mathlib.Omega.{arith}
 use borrow.Author.Tests.{leb-true, eqb-true}
 use lib.Dec.{leb, eqb}
 use Rattle.model.specs.Limits.{max_shelves, max_delta, min_words, max_words}
 use Rattle.model.specs.Session.{header_of, words_of_header, session_length}
 use Rattle.model.specs.Questions.{header_ok}
-use Rattle.model.specs.Answers.{answer_of, header_asked}
+use Rattle.std.specs.Prelude.{Ok, Err}
+use Rattle.model.specs.Numbers.{number_of, answer_of}
+use Rattle.model.specs.Answers.{header_asked}
+use Rattle.model.specs.declared.questions.Question.{Question}
+use Rattle.model.proofs.Numbers.{no_means, yes_means}
 use Rattle.model.specs.declared.Header.{Header}
-use Rattle.model.specs.declared.HeaderAnswer.TheVariants.{Valid, Refused}
 
 abbrev pub ticks_ok : ℕ → ℕ → Bool
 ticks_ok delta epsilon = leb 1 delta && leb delta max_delta && leb 1 epsilon && leb epsilon delta
@@ -28,36 +30,10 @@ regroup : (t a b c d l : Bool) → (t && a && b && c && d && l) ≡ (t && (a && 
 regroup true a b c d l = refl
 regroup false a b c d l = refl
 
-parts : (h : Header) (len : ℕ)
+pub parts : (h : Header) (len : ℕ)
     → header_ok h len ≡ (ticks_ok h.delta h.epsilon && (shelves_ok h.shelves h.words && eqb len (session_length h)))
 unfolding header_ok
 parts h len = regroup (ticks_ok h.delta h.epsilon) _ _ _ _ _
-
--- ---- the answer, by the parts
-
-module _ (h : Header) (len : ℕ) where
-  pub wrong_ticks : ticks_ok h.delta h.epsilon ≡ false → answer_of Refused ≡ header_asked h len
-  unfolding header_asked
-  wrong_ticks e = rw (parts h len, e)
-
-  pub wrong_shelves : ticks_ok h.delta h.epsilon ≡ true → shelves_ok h.shelves h.words ≡ false → answer_of Refused ≡ header_asked h len
-  unfolding header_asked
-  wrong_shelves d e = rw (parts h len, d, e)
-
-  pub by_length : {t : Bool} → ticks_ok h.delta h.epsilon ≡ true → shelves_ok h.shelves h.words ≡ true → eqb len (session_length h) ≡ t
-      → cond t (0, words_of_header h) (1, []) ≡ header_asked h len
-  unfolding header_asked
-  by_length d e f = rw (parts h len, d, e, f)
-
--- the product K × W is small
-pub product_small : (shelves words : ℕ) → shelves_ok shelves words ≡ true → shelves * words ≤ 67108864
-product_small shelves words e =
-    let p₂ = leb 1 shelves && leb shelves max_shelves in
-    let p₃ = p₂ && leb min_words words in
-    let e₄ = and_both p₃ (leb words max_words) e in
-    let e₂ = and_both p₂ (leb min_words words) e₄.0 in
-    let few = leb-true shelves 64 (and_both (leb 1 shelves) (leb shelves max_shelves) e₂.0).1 in
-    mul-le-mul few (leb-true words 1048576 e₄.1)
 
 -- ---- what an answer tells
 
@@ -103,19 +79,12 @@ in_range {h} {len} e =
     }
 
 module _ (h : Header) (len : ℕ) where
-  refused_by : (t : Bool) → ◌≡◌ {A = ℕ × List ℕ} (1, []) (cond t (0, words_of_header h) (1, [])) → t ≡ false
-  refused_by true e = absurd (let z : ◌≡◌ {A = ℕ} 1 0 = ap (λ (p : ℕ × List ℕ). p.0) e in omega arith)
-  refused_by false e = refl
-
-  valid_by : (t : Bool) (g : Header) → ◌≡◌ {A = ℕ × List ℕ} (0, words_of_header g) (cond t (0, words_of_header h) (1, [])) → (t ≡ true) × (g ≡ h)
-  unfolding header_of
-  valid_by true g e = (refl, ap (λ (p : ℕ × List ℕ). header_of p.1) e)
-  valid_by false g e = absurd (let z : ◌≡◌ {A = ℕ} 0 1 = ap (λ (p : ℕ × List ℕ). p.0) e in omega arith)
-
-  pub refused_means : answer_of Refused ≡ header_asked h len → header_ok h len ≡ false
+  pub refused_means : (q : Question) → answer_of words_of_header (Err q) ≡ header_asked h len → (header_ok h len ≡ false) × (number_of q ≡ 1)
   unfolding header_asked
-  refused_means e = refused_by (header_ok h len) e
+  refused_means q e = no_means (header_ok h len) 1 (words_of_header h) q e
 
-  pub valid_means : (g : Header) → answer_of (Valid g) ≡ header_asked h len → (header_ok h len ≡ true) × (g ≡ h)
-  unfolding header_asked
-  valid_means g e = valid_by (header_ok h len) g e
+  pub valid_means : (g : Header) → answer_of words_of_header (Ok g) ≡ header_asked h len → (header_ok h len ≡ true) × (g ≡ h)
+  unfolding header_asked header_of
+  valid_means g e =
+      let v = yes_means (header_ok h len) 1 (omega arith) e in
+      (v.0, ap (λ (p : ℕ × List ℕ). header_of p.1) v.1)

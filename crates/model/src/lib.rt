@@ -4,10 +4,14 @@
 
 ghost use Rattle.std.specs.Prelude.{◌≡◌, ◌&&◌, leb};
 ghost use Rattle.model.specs.Limits.{max_beats, lane_count, max_shelves, max_delta, min_words, max_words};
-ghost use Rattle.model.specs.Session.{header_words};
-ghost use Rattle.model.specs.Answers.{answer_of, header_asked};
+ghost use Rattle.model.specs.Session.{header_words, words_of_header};
+ghost use Rattle.model.specs.Numbers.{answer_of};
+ghost use Rattle.model.specs.Questions.{header_ok};
+ghost use Rattle.model.specs.Answers.{header_asked};
 
 pub mod questions;
+
+use questions::Question;
 
 // A session's header: ticks in a beat, the shortest piece kept, the number of shelves, the words in a shelf.
 #[derive(Clone, Copy)]
@@ -16,15 +20,6 @@ pub struct Header {
     pub epsilon: u32,
     pub shelves: u32,
     pub words: u32,
-}
-
-// What the checked constructor of a header answers.
-#[derive(Drop)]
-pub enum HeaderAnswer {
-    // The four words are in range, and the session is as long as they say.
-    Valid(Header),
-    // Question 1 is answered no.
-    Refused,
 }
 
 impl Header {
@@ -51,58 +46,59 @@ impl Header {
 
     // Question 1 for four header words and a session of `length` words. The second promise ties the constants to the
     // definitions; those of the ranges are tied by the first.
-    pub fn new(delta: u32, epsilon: u32, shelves: u32, words: u32, length: usize) -> HeaderAnswer
-        ensures asked { answer_of result ≡ header_asked (record { delta = delta; epsilon = epsilon; shelves = shelves; words = words }) length }
+    #[tactic(auto, unfolding(crate::specs::Answers::header_asked))]
+    pub fn new(
+        delta: u32,
+        epsilon: u32,
+        shelves: u32,
+        words: u32,
+        length: usize,
+    ) -> Result<Header, Question>
+        ensures asked { answer_of words_of_header result ≡ header_asked (record { delta = delta; epsilon = epsilon; shelves = shelves; words = words }) length }
         ensures limits { (Header.BEATS ≡ max_beats) × (Header.LANES ≡ lane_count) × (Header.SHELVES ≡ max_shelves) × (Header.WORDS ≡ header_words) }
     {
-        if !ticks_ok(delta, epsilon) {
-            return HeaderAnswer::Refused;
-        }
-        if !shelves_ok(shelves, words) {
-            return HeaderAnswer::Refused;
-        }
-        if length != Header::WORDS + (shelves as usize) * (words as usize) {
-            return HeaderAnswer::Refused;
-        }
-        HeaderAnswer::Valid(Header {
+        let header = Header {
             delta,
             epsilon,
             shelves,
             words,
-        })
+        };
+        if header.in_range(length) {
+            Ok(header)
+        } else {
+            Err(Question::HeaderInRange)
+        }
     }
-}
 
-// Are δ and ε in range?
-fn ticks_ok(delta: u32, epsilon: u32) -> bool
-    ensures { result ≡ (leb 1 delta && leb delta max_delta && leb 1 epsilon && leb epsilon delta) }
-{
-    if delta < Header::DELTA_MIN {
-        return false;
+    // Are the four words in range, and is the length exact?
+    #[tactic(auto, using(crate::proofs::Headers::parts))]
+    fn in_range(self, length: usize) -> bool
+        ensures { result ≡ header_ok self length }
+    {
+        self.ticks_ok()
+            && self.shelves_ok()
+            && length == Header::WORDS + (self.shelves as usize) * (self.words as usize)
     }
-    if Header::DELTA_MAX < delta {
-        return false;
-    }
-    if epsilon < Header::EPSILON_MIN {
-        return false;
-    }
-    epsilon <= delta
-}
 
-// Are K and W in range?
-fn shelves_ok(shelves: u32, words: u32) -> bool
-    ensures { result ≡ (leb 1 shelves && leb shelves max_shelves && leb min_words words && leb words max_words) }
-{
-    if shelves < 1 {
-        return false;
+    // Are δ and ε in range?
+    fn ticks_ok(self) -> bool
+        ensures { result ≡ (leb 1 self.delta && leb self.delta max_delta && leb 1 self.epsilon && leb self.epsilon self.delta) }
+    {
+        Header::DELTA_MIN <= self.delta
+            && self.delta <= Header::DELTA_MAX
+            && Header::EPSILON_MIN <= self.epsilon
+            && self.epsilon <= self.delta
     }
-    if Header::SHELVES < shelves {
-        return false;
+
+    // Are K and W in range?
+    fn shelves_ok(self) -> bool
+        ensures { result ≡ (leb 1 self.shelves && leb self.shelves max_shelves && leb min_words self.words && leb self.words max_words) }
+    {
+        1 <= self.shelves
+            && self.shelves <= Header::SHELVES
+            && Header::SHELF_WORDS_MIN <= self.words
+            && self.words <= Header::SHELF_WORDS_MAX
     }
-    if words < Header::SHELF_WORDS_MIN {
-        return false;
-    }
-    words <= Header::SHELF_WORDS_MAX
 }
 
 // A note: its lane (channel × 128 + key), start and end in ticks, velocity.

@@ -1,6 +1,6 @@
 // The questions that a call is put. A call that is refused says which of them is answered no.
 ghost use Rattle.std.specs.Prelude.{◌≡◌};
-ghost use Rattle.model.specs.Numbers.{number_of};
+ghost use Rattle.model.specs.Numbers.{number_of, answer_number};
 
 // A question, named after what it asks for. Its number in the paper stands in specs/Numbers.
 #[derive(Clone, Copy, PartialEq, Eq)]
@@ -44,4 +44,11 @@ impl From<Question> for u32 {
     fn from(question: Question) -> u32 {
         question as u32
     }
+}
+
+// The number that a call returns: 0, or that of the question that is answered no.
+pub fn answer_number(answer: Result<(), Question>) -> u32
+    ensures { result ≡ answer_number answer }
+{
+    answer.err().map_or(0, u32::from)
 }

@@ -21,8 +21,10 @@ use Rattle.model.specs.declared.Note.{Note}
 use Rattle.laws.specs.Notes.{Fair, fair, Follow, Follow.above, Follow.later, follow}
 use Rattle.session.specs.Checking.{before_all}
 use Rattle.session.specs.Reading.{note_at}
-use Rattle.session.specs.Listing.{list_of, list_asked, cells_listed}
-use Rattle.session.specs.declared.list.ListAnswer.TheVariants.{Cells, Refused}
+use Rattle.std.specs.Prelude.{Ok, Err}
+use Rattle.model.specs.Numbers.{answer_of}
+use Rattle.model.specs.declared.questions.Question.TheVariants.{ListInOrder}
+use Rattle.session.specs.Listing.{count_words, list_asked, cells_listed}
 use Rattle.session.proofs.Counts.{note_beats, count-note, one_le}
 use Rattle.session.proofs.Readings.{notes_cons}
 
@@ -153,15 +155,15 @@ module _ (δ beats : ℕ) (ws : List ℕ) where
 -- ---- the answer
 
 module _ (h : Header) (beats : ℕ) (ws : List ℕ) where
-  pub not_whole : (length ws % 4 ≡ 0 → ⊥) → list_of Refused ≡ list_asked h beats ws
+  pub not_whole : (length ws % 4 ≡ 0 → ⊥) → answer_of count_words (Err ListInOrder) ≡ list_asked h beats ws
   unfolding list_asked list_ok
   not_whole wrong = rw (ne_eqb (length ws % 4) 0 wrong)
 
-  pub not_ok : notes_ok h.delta beats (read_notes (length ws / 4) ws) ≡ false → list_of Refused ≡ list_asked h beats ws
+  pub not_ok : notes_ok h.delta beats (read_notes (length ws / 4) ws) ≡ false → answer_of count_words (Err ListInOrder) ≡ list_asked h beats ws
   unfolding list_asked list_ok listed
   not_ok wrong = rw (wrong, and-false)
 
   pub counted : length ws % 4 ≡ 0 → notes_ok h.delta beats (read_notes (length ws / 4) ws) ≡ true
-      → (k : ℕ) → k ≡ length (gather (cells_of_note h.delta) (read_notes (length ws / 4) ws)) → list_of (Cells k) ≡ list_asked h beats ws
+      → (k : ℕ) → k ≡ length (gather (cells_of_note h.delta) (read_notes (length ws / 4) ws)) → answer_of count_words (Ok k) ≡ list_asked h beats ws
   unfolding list_asked list_ok listed cells_listed
   counted whole right k e = rw (eq-eqb (length ws % 4) 0 whole, right, e)

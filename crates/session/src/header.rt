@@ -1,45 +1,33 @@
 // Questions 1 and 2, and the place of a shelf.
 ghost use Rattle.std.specs.Prelude.{◌≡◌, ◌≤◌, ◌<◌, length};
 ghost use Rattle.model.specs.Limits.{max_shelves, max_words};
-ghost use Rattle.model.specs.Session.{header_of, shelf_at};
-ghost use Rattle.model.specs.Answers.{answer_of, header_asked};
-ghost use Rattle.session.specs.Entering.{entry_of, entry_asked};
+ghost use Rattle.model.specs.Session.{header_of, shelf_at, words_of_header};
+ghost use Rattle.model.specs.Numbers.{answer_of};
+ghost use Rattle.model.specs.Answers.{header_asked};
+ghost use Rattle.session.specs.Entering.{entry_asked};
 
-use model::{Header, HeaderAnswer};
+use model::Header;
+use model::questions::Question;
 
 // Question 1 on the session's own words.
-pub fn read(s: &[u32]) -> HeaderAnswer
-    ensures { answer_of result ≡ header_asked (header_of s.now) (length s.now) }
+pub fn read(s: &[u32]) -> Result<Header, Question>
+    ensures { answer_of words_of_header result ≡ header_asked (header_of s.now) (length s.now) }
 {
-    if s.len() < Header::WORDS {
-        return HeaderAnswer::Refused;
-    }
-    Header::new(s[0], s[1], s[2], s[3], s.len())
-}
-
-// What a call that names one shelf is answered first.
-#[derive(Drop)]
-pub enum Entry {
-    // The session's header; the shelf is one of its shelves.
-    Granted(Header),
-    // The number of the question that is answered no.
-    Refused(u32),
+    let &[delta, epsilon, shelves, words, ..] = s else {
+        return Err(Question::HeaderInRange);
+    };
+    Header::new(delta, epsilon, shelves, words, s.len())
 }
 
 // Questions 1 and 2 of a call that names one shelf.
-pub fn enter(s: &[u32], shelf: u32) -> Entry
-    ensures { entry_of result ≡ entry_asked s.now shelf }
+pub fn enter(s: &[u32], shelf: u32) -> Result<Header, Question>
+    ensures { answer_of words_of_header result ≡ entry_asked s.now shelf }
 {
-    let answer = read(s);
-    match answer {
-        HeaderAnswer::Valid(h) => {
-            if shelf < h.shelves {
-                Entry::Granted(h)
-            } else {
-                Entry::Refused(2)
-            }
-        }
-        HeaderAnswer::Refused => Entry::Refused(1),
+    let header = read(s)?;
+    if shelf < header.shelves {
+        Ok(header)
+    } else {
+        Err(Question::ShelvesBelow)
     }
 }
 

@@ -10,6 +10,7 @@ pub mod layout;
 pub mod list;
 pub mod neighbours;
 pub mod notes;
+pub mod room;
 pub mod rules;
 pub mod runs;
 pub mod shelf;

@@ -1,27 +1,20 @@
 // Question 7: the check of a lent note list.
 ghost use Rattle.std.specs.Prelude.{◌≡◌, ◌≤◌, ◌<◌};
 ghost use Rattle.model.specs.Limits.{max_beats, max_delta};
-ghost use Rattle.session.specs.Listing.{list_of, list_asked};
+ghost use Rattle.model.specs.Numbers.{answer_of};
+ghost use Rattle.session.specs.Listing.{count_words, list_asked};
 
 use crate::{beats, cells, notes};
 use model::Header;
-
-// What the check of a note list answers.
-#[derive(Drop)]
-pub enum ListAnswer {
-    // The list is in order, and its notes have so many cells.
-    Cells(u64),
-    // Question 7 is answered no.
-    Refused,
-}
+use model::questions::Question;
 
 // Are they whole notes, in range, in order and without overlap in a lane? One pass, which also counts their cells.
-pub fn check_list(h: Header, beats: u32, list: &[u32]) -> ListAnswer
+pub fn check_list(h: Header, beats: u32, list: &[u32]) -> Result<u64, Question>
     requires { (0 < h.delta) × (h.delta ≤ max_delta) × (beats ≤ max_beats) }
-    ensures { list_of result ≡ list_asked h beats list.now }
+    ensures { answer_of count_words result ≡ list_asked h beats list.now }
 {
     if list.len() % 4 != 0 {
-        return ListAnswer::Refused;
+        return Err(Question::ListInOrder);
     }
     let reciprocal = beats::reciprocal(h.delta);
     let mut last = notes::before_all();
@@ -30,14 +23,14 @@ pub fn check_list(h: Header, beats: u32, list: &[u32]) -> ListAnswer
     while at < list.len() {
         let note = notes::note_at(list, at);
         if !notes::note_ok(h.delta, beats, note) {
-            return ListAnswer::Refused;
+            return Err(Question::ListInOrder);
         }
         if !notes::note_follows(last, note) {
-            return ListAnswer::Refused;
+            return Err(Question::ListInOrder);
         }
         cells += cells::cell_count_by(h.delta, reciprocal, note) as u64;
         last = note;
         at += 4;
     }
-    ListAnswer::Cells(cells)
+    Ok(cells)
 }

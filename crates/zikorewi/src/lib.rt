@@ -8,6 +8,7 @@ ghost use Rattle.file.specs.Calls.{load_number, load_after, write_number, write_
 
 use beat::{joining, laying, opening, splitting};
 use file::{loading, writing};
+use model::questions::answer_number;
 
 // Writes δ, ε, K, W and zeros. Returns 1, and changes nothing, where they are out of range or the list is not as long as they say.
 #[unsafe(no_mangle)]
@@ -21,7 +22,7 @@ pub extern "C" fn take_open(
     ensures number { result ≡ number session.old (open_call (record { delta = delta; epsilon = epsilon; shelves = shelves; words = shelf_words })) }
     ensures words { session.new ≡ after session.old (open_call (record { delta = delta; epsilon = epsilon; shelves = shelves; words = shelf_words })) }
 {
-    opening::take_open(session, delta, epsilon, shelves, shelf_words)
+    answer_number(opening::take_open(session, delta, epsilon, shelves, shelf_words))
 }
 
 // Lays a note list of so many beats in a shelf, with all its cells. Returns the number of the first question answered no, or 0.
@@ -30,7 +31,7 @@ pub extern "C" fn take_lay(session: &mut [u32], shelf: u32, beats: u32, notes: &
     ensures number { result ≡ number session.old (lay_call shelf beats notes.now) }
     ensures words { session.new ≡ after session.old (lay_call shelf beats notes.now) }
 {
-    laying::take_lay(session, shelf, beats, notes)
+    answer_number(laying::take_lay(session, shelf, beats, notes))
 }
 
 // Splits a take at a beat: its beats before that beat go to the left shelf, the others to the right shelf. Returns the number of the
@@ -46,7 +47,7 @@ pub extern "C" fn take_split(
     ensures number { result ≡ number session.old (split_call take beat left right) }
     ensures words { session.new ≡ after session.old (split_call take beat left right) }
 {
-    splitting::take_split(session, take, beat, left, right)
+    answer_number(splitting::take_split(session, take, beat, left, right))
 }
 
 // Joins the takes in two shelves, the second behind the first, into a third. Returns the number of the first question answered no, or 0.
@@ -55,7 +56,7 @@ pub extern "C" fn take_join(session: &mut [u32], first: u32, second: u32, res: u
     ensures number { result ≡ number session.old (join_call first second res) }
     ensures words { session.new ≡ after session.old (join_call first second res) }
 {
-    joining::take_join(session, first, second, res)
+    answer_number(joining::take_join(session, first, second, res))
 }
 
 // Loads a file in a shelf: its notes are laid. Returns the number of the first question answered no, or 0.
@@ -74,5 +75,5 @@ pub extern "C" fn take_write(session: &[u32], shelf: u32, output: &mut [u8], cou
     ensures count { count.new ≡ write_count session.now shelf (length output.old) }
     ensures output { output.new ≡ write_output session.now shelf output.old }
 {
-    writing::take_write(session, shelf, output, count)
+    answer_number(writing::take_write(session, shelf, output, count))
 }

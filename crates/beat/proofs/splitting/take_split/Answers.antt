@@ -1,23 +1,28 @@
 -- `beat::splitting::take_split` meets its contract.
-use Rattle.model.specs.Answers.{answer_of}
-use mathlib.Core.Path.{sym, ap, ◌∙◌}
-use Rattle.beat.proofs.Splits.{no_header, header_ok_lem, refused, split_asks, done}
+use mathlib.Core.Path.{ap, ◌∙◌}
+use Rattle.model.specs.Numbers.{answer_number}
+use Rattle.model.proofs.Numbers.{passed_on}
+use Rattle.beat.proofs.Calls.{no_header, header_ok_lem}
+use Rattle.beat.proofs.Splits.{number_is, refused, split_asks, done}
 use Rattle.beat.proofs.splitting.take_split.Goals as goal
 
-pub asked-no-requires : goal.asked-no-requires
-asked-no-requires c = header_ok_lem _ (sym (ap answer_of c.in-Valid.is) ∙ c.read-answer.ensures)
+pub returns-in_err-header : goal.returns-in_err-header
+returns-in_err-header c =
+    let no = no_header _ _ _ (number_is _ _ _ _ _) _ c.in_err-header.ensures in
+    record { number = ap answer_number (passed_on c.from_residual.ensures.1) ∙ no.0; words = no.1 }
 
-pub returns-then-no-ne0 : goal.returns-then-no-ne0
-returns-then-no-ne0 c =
-    record { number = (refused _ _ _ _ _ (sym (ap answer_of c.in-Valid.is) ∙ c.read-answer.ensures) c.asked-no.ensures c.if-no-ne0.true).0; words = (refused _ _ _ _ _ (sym (ap answer_of c.in-Valid.is) ∙ c.read-answer.ensures) c.asked-no.ensures c.if-no-ne0.true).1 }
+pub asked-requires : goal.asked-requires
+asked-requires c = header_ok_lem _ c.in_ok-header.ensures
+
+pub returns-in_err-asked : goal.returns-in_err-asked
+returns-in_err-asked c =
+    let no = refused _ _ _ _ _ c.in_ok-header.ensures _ c.in_err-asked.ensures in
+    record { number = ap answer_number (passed_on c.from_residual-in_err-asked.ensures.1) ∙ no.0; words = no.1 }
 
 pub put_halves-requires : goal.put_halves-requires
-put_halves-requires c = split_asks _ _ _ _ _ (sym (ap answer_of c.in-Valid.is) ∙ c.read-answer.ensures) c.asked-no.ensures c.if-no-ne0.false
+put_halves-requires c = split_asks _ _ _ _ _ c.in_ok-header.ensures c.in_ok-asked.ensures
 
-pub returns-else-no-ne0 : goal.returns-else-no-ne0
-returns-else-no-ne0 c =
-    record { number = (done _ _ _ _ _ (sym (ap answer_of c.in-Valid.is) ∙ c.read-answer.ensures) c.asked-no.ensures c.if-no-ne0.false c.put_halves.ensures).0; words = (done _ _ _ _ _ (sym (ap answer_of c.in-Valid.is) ∙ c.read-answer.ensures) c.asked-no.ensures c.if-no-ne0.false c.put_halves.ensures).1 }
-
-pub returns-in-Refused : goal.returns-in-Refused
-returns-in-Refused c =
-    record { number = (no_header _ _ _ _ _ (sym (ap answer_of c.in-Refused.is) ∙ c.read-answer.ensures)).0; words = (no_header _ _ _ _ _ (sym (ap answer_of c.in-Refused.is) ∙ c.read-answer.ensures)).1 }
+pub returns : goal.returns
+returns c =
+    let yes = done _ _ _ _ _ c.in_ok-header.ensures c.in_ok-asked.ensures c.put_halves.ensures in
+    record { number = yes.0; words = yes.1 }

@@ -1,5 +1,5 @@
 -- `frames::calls::open_session` meets its contract.
-use mathlib.Core.Path.{sym}
+use mathlib.Core.Path.{sym, ◌∙◌}
 use lib.Seq.{length-take-le}
 use Rattle.session.proofs.WaysOut.{product_fits}
 use Rattle.frames.proofs.Carried.{open_large, open_kept, open_accepted}
@@ -19,7 +19,7 @@ pub slice_bounds-take_open-end-2 : goal.slice_bounds-take_open-end-2
 slice_bounds-take_open-end-2 c = sym (length-take-le _ _ (omega arith))
 
 pub returns-then-number-ne0 : goal.returns-then-number-ne0
-returns-then-number-ne0 c = open_kept _ _ c.requires.1 c.requires.0 _ (omega arith) (c.take_open-number.ensures.number, c.take_open-number.ensures.words) c.if-number-ne0.true
+returns-then-number-ne0 c = open_kept _ _ c.requires.1 c.requires.0 _ (omega arith) (c.answer_number-number.ensures ∙ c.take_open.ensures.number, c.take_open.ensures.words) c.if-number-ne0.true
 
 pub returns : goal.returns
-returns c = open_accepted _ _ c.requires.1 c.requires.0 _ (omega arith) (c.take_open-number.ensures.number, c.take_open-number.ensures.words) (omega arith)
+returns c = open_accepted _ _ c.requires.1 c.requires.0 _ (omega arith) (c.answer_number-number.ensures ∙ c.take_open.ensures.number, c.take_open.ensures.words) (omega arith)

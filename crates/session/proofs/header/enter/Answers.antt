@@ -1,14 +1,16 @@
 -- `session::header::enter` meets its contract.
+use mathlib.Core.Path.{ap, ◌∙◌}
+use Rattle.model.specs.Session.{words_of_header}
+use Rattle.model.specs.Numbers.{answer_of}
+use Rattle.model.proofs.Numbers.{passed_on}
 use Rattle.session.proofs.Entries.{granted, no_shelf, no_header}
-use Rattle.model.specs.Answers.{answer_of}
-use mathlib.Core.Path.{ap, sym, ◌∙◌}
 use Rattle.session.proofs.header.enter.Goals as goal
 
-pub returns-then-shelf-h : goal.returns-then-shelf-h
-returns-then-shelf-h c = granted _ _ _ (sym (ap answer_of c.in-Valid.is) ∙ c.read-answer.ensures) c.if-shelf-h.true
+pub returns-in_err-header : goal.returns-in_err-header
+returns-in_err-header c = ap (answer_of words_of_header) (passed_on c.from_residual.ensures.1) ∙ no_header _ _ _ c.in_err-header.ensures
 
-pub returns-else-shelf-h : goal.returns-else-shelf-h
-returns-else-shelf-h c = no_shelf _ _ _ (sym (ap answer_of c.in-Valid.is) ∙ c.read-answer.ensures) c.if-shelf-h.false
+pub returns-then-shelf-header : goal.returns-then-shelf-header
+returns-then-shelf-header c = granted _ _ _ c.in_ok-header.ensures c.if-shelf-header.true
 
-pub returns-in-Refused : goal.returns-in-Refused
-returns-in-Refused c = no_header _ _ (sym (ap answer_of c.in-Refused.is) ∙ c.read-answer.ensures)
+pub returns-else-shelf-header : goal.returns-else-shelf-header
+returns-else-shelf-header c = no_shelf _ _ _ c.in_ok-header.ensures c.if-shelf-header.false

@@ -1,8 +1,8 @@
--- `beat::joining::is_sound` meets its contract.
+-- `beat::shelves::is_sound` meets its contract.
 use native.Mathlib.Omega.{arith}
 use Rattle.model.proofs.Headers.{in_range}
 use Rattle.session.proofs.Sources.{place_asks, inside_session, sound_asks, sound_is}
-use Rattle.beat.proofs.joining.is_sound.Goals as goal
+use Rattle.beat.proofs.shelves.is_sound.Goals as goal
 
 pub shelf_at-at-requires : goal.shelf_at-at-requires
 shelf_at-at-requires c = place_asks (in_range c.requires.0) c.requires.1
