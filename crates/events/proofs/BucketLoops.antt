@@ -15,8 +15,7 @@ use Rattle.track.specs.Keys.{tick_of, event_of}
 use Rattle.buckets.specs.Buckets.{base}
 use Rattle.events.specs.Tracks.{Timed}
 use Rattle.events.specs.Windows.{window_bytes, last_tick, longest}
-use Rattle.order.specs.declared.tables.Tables.{Tables}
-use Rattle.events.specs.Emitting.{Kept, events_from, start_of, events_of, span, events_to, Bounds, Noted, Ahead, BucketAhead}
+use Rattle.events.specs.Emitting.{events_from, start_of, events_of, span, events_to, Bounds, Noted, Ahead, BucketAhead}
 use Rattle.events.proofs.WindowLoops.{timed_window, timed_behind}
 use Rattle.events.proofs.Storing.{word_same}
 use Rattle.events.proofs.Spans.{span_none, span_next}
@@ -140,9 +139,6 @@ module _ {width v : ℕ} {ends out starts ticks : List ℕ} (h : BucketAhead wid
   read_bytes g = rw read at g
 
 -- ---- the loop
-
-pub kept_on : {t u v : Tables} → Kept t u → Kept u v → Kept t v
-kept_on k l = record { starts = l.starts ∙ k.starts; ends = l.ends ∙ k.ends; next = l.next ∙ k.next }
 
 -- The bytes of the buckets from `first` on up to bucket v are left; with them all is written. Ahead of what is written all is as it was.
 pub record Emitting (width first at tick : ℕ) (ends out₀ : List ℕ) (v : ℕ) (out : List ℕ) : Type 0 where

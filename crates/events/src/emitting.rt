@@ -1,8 +1,8 @@
 // The bytes of events that stand in an output bucket by bucket, written over them.
-ghost use Rattle.std.specs.Prelude.{◌≡◌, ◌<◌, get_or};
+ghost use Rattle.std.specs.Prelude.{◌≡◌, ◌<◌, length, get_or};
 ghost use Rattle.words.specs.Splice.{splice};
 ghost use Rattle.events.specs.Windows.{window_bytes};
-ghost use Rattle.events.specs.Emitting.{start_of, events_of, events_to, Kept, Bounds, Noted, Ahead, BucketAhead};
+ghost use Rattle.events.specs.Emitting.{start_of, events_of, events_to, Bounds, Noted, Ahead, BucketAhead};
 
 use crate::{stored, windows};
 use order::tables::Tables;
@@ -15,19 +15,25 @@ pub fn bucket_start(ends: &[u32; 2048], v: usize) -> usize
     if v == 0 { 0 } else { ends[v - 1] as usize }
 }
 
-// Writes the bytes of bucket v to their place.
-fn put_bucket(out: &mut [u8], v: usize, width: u32, tables: &mut Tables)
-    requires { Bounds width tables.old.ends × BucketAhead width v tables.old.ends out.old tables.old.starts tables.old.next }
-    ensures bytes { out.new ≡ splice out.old (get_or tables.old.starts v 0) (window_bytes (get_or tables.old.next v 0) (events_of width tables.old.ends out.old v)) }
-    ensures kept { Kept tables.old tables.new }
+// Writes the bytes of bucket v to their place. The tables are lent one by one: a part of one cannot be lent behind a reference to all of them.
+fn put_bucket(
+    out: &mut [u8],
+    v: usize,
+    width: u32,
+    starts: &[u32; 2048],
+    ends: &[u32; 2048],
+    next: &[u32; 2048],
+    a: &mut [u64; 2048],
+)
+    requires { Bounds width ends.now × BucketAhead width v ends.now out.old starts.now next.now }
+    ensures bytes { out.new ≡ splice out.old (get_or starts.now v 0) (window_bytes (get_or next.now v 0) (events_of width ends.now out.old v)) }
+    ensures long { length a.new ≡ 2048 }
 {
-    let from = bucket_start(&tables.ends, v);
-    let upto = tables.ends[v] as usize;
-    let at = tables.starts[v] as usize;
-    let tick = tables.next[v];
-    let events = &mut tables.a[..upto - from];
+    let from = bucket_start(ends, v);
+    let upto = ends[v] as usize;
+    let events = &mut a[..upto - from];
     stored::read_bucket(out, from, v as u64 * width as u64 * 524288, events);
-    windows::put_window(out, at, tick, events);
+    windows::put_window(out, starts[v] as usize, next[v], events);
 }
 
 // Writes the bytes of each bucket from `first` on to their place, the last bucket first: they start behind all events of earlier buckets.
@@ -36,6 +42,14 @@ pub fn put_buckets(out: &mut [u8], width: u32, first: usize, tables: &mut Tables
     ensures { out.new ≡ splice out.old (get_or tables.old.starts first 0) (window_bytes (get_or tables.old.next first 0) (events_to width tables.old.ends out.old first 2048)) }
 {
     for v in (first..2048).rev() {
-        put_bucket(out, v, width, tables);
+        put_bucket(
+            out,
+            v,
+            width,
+            &tables.starts,
+            &tables.ends,
+            &tables.next,
+            &mut tables.a,
+        );
     }
 }

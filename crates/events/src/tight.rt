@@ -44,7 +44,8 @@ fn put_tight_bucket(
     tick: u32,
 ) -> Option<u32>
     requires { BucketAsks width v from upto (22 + 4 * from) tick out.old }
-    ensures { TightBucket width v from upto tick out.old out.new result }
+    ensures put { TightBucket width v from upto tick out.old out.new result }
+    ensures long { (length a.new ≡ 2048) × (length b.new ≡ 2048) × (length places.new ≡ 2048) }
 {
     let at = 22 + 4 * from;
     let end = 22 + 4 * upto;

@@ -1,4 +1,5 @@
 // The track of many notes: counted, and written, window by window in the order of the file.
+// The two loops stand apart as those of a window do. They count no index: a turn takes as many events as the next window holds.
 ghost use Rattle.std.specs.Prelude.{◌≡◌, ◌+◌, ◌≤◌, length};
 ghost use Rattle.words.specs.Splice.{splice};
 ghost use Rattle.events.specs.Tracks.{track_left, track_most, events_left, TrackAsks};
@@ -33,19 +34,7 @@ pub fn length_left(notes: Notes, n: usize, tables: &mut Tables, end: u32) -> usi
     let mut at: usize = 0;
     let mut tick: u32 = 0;
     while 0 < left {
-        let w = taking::take_window(
-            notes.words,
-            notes.count,
-            n,
-            &mut tables.starts,
-            &tables.ends,
-            &mut tables.next,
-            &mut tables.a,
-            &mut tables.b,
-            &mut tables.places,
-            from,
-            width,
-        );
+        let w = taking::take_window(notes, n, tables, from, width);
         let r = windows::window_length(&tables.a[..w.count], at, tick);
         at = r.at;
         tick = r.tick;
@@ -74,19 +63,7 @@ pub fn put_left(
     let mut at = start;
     let mut tick: u32 = 0;
     while 0 < left {
-        let w = taking::take_window(
-            notes.words,
-            notes.count,
-            n,
-            &mut tables.starts,
-            &tables.ends,
-            &mut tables.next,
-            &mut tables.a,
-            &mut tables.b,
-            &mut tables.places,
-            from,
-            width,
-        );
+        let w = taking::take_window(notes, n, tables, from, width);
         let r = windows::put_window(out, at, tick, &tables.a[..w.count]);
         at = r.at;
         tick = r.tick;

@@ -1,4 +1,5 @@
 // A window of a track: some of its events, in order, one after the other. Counted, and written.
+// The two loops stand apart: one function over both would be lent an output that the count does not have, and say no more.
 ghost use Rattle.std.specs.Prelude.{◌≡◌, ◌+◌, ◌≤◌, length};
 ghost use Rattle.words.specs.Splice.{splice};
 ghost use Rattle.track.specs.Keys.{tick_of};

@@ -32,23 +32,47 @@ fn put_track(out: &mut [u8], events: &[u64], end: u32) -> usize
     putting::put_end(out, reached.at, end - reached.tick)
 }
 
-// The file of a take, if it fits the output. Returns its length.
-pub fn put_few(take: Take, out: &mut [u8]) -> Option<usize>
+// The tables in which few events are put in order: as one value, so that they share their place on the stack with the tables of many.
+#[derive(Drop)]
+struct Room {
+    a: [u64; 2048],
+    b: [u64; 2048],
+    places: [u16; 2048],
+}
+
+// The file of a take, if it fits the output, with tables that are lent. Returns its length.
+fn put_lent(
+    take: Take,
+    a: &mut [u64; 2048],
+    b: &mut [u64; 2048],
+    places: &mut [u16; 2048],
+    out: &mut [u8],
+) -> Option<usize>
     requires { (take.notes.count ≤ 1024) × (take.beats * take.delta ≤ 2097151) }
     ensures { (result ≡ length_in (file take.entry) out.old) × (out.new ≡ output_of (file take.entry) out.old) }
 {
-    let mut a = [0u64; 2048];
-    let mut b = [0u64; 2048];
-    let mut places = [0u16; 2048];
     let end = take.end();
     let m = 2 * take.notes.count;
-    order::put_all(take.notes.words, take.notes.count, &mut a);
-    radix::sort(&mut a, &mut b, m, &mut places, 0, 2 * (end as u64) + 2);
-    let events = &a[..m];
+    let events = &mut a[..m];
+    order::put_all(take.notes, events);
+    radix::sort(events, &mut b[..m], places, 0, 2 * (end as u64) + 2);
     if !fits(events, end, out.len()) {
         return None;
     }
     let behind = put_track(out, events, end);
     files::put_header(out, take.delta, (behind - 22) as u32);
     Some(behind)
+}
+
+// The file of a take, if it fits the output. Returns its length.
+pub fn put_few(take: Take, out: &mut [u8]) -> Option<usize>
+    requires { (take.notes.count ≤ 1024) × (take.beats * take.delta ≤ 2097151) }
+    ensures { (result ≡ length_in (file take.entry) out.old) × (out.new ≡ output_of (file take.entry) out.old) }
+{
+    let mut room = Room {
+        a: [0; 2048],
+        b: [0; 2048],
+        places: [0; 2048],
+    };
+    put_lent(take, &mut room.a, &mut room.b, &mut room.places, out)
 }

@@ -16,12 +16,7 @@ fn fits(take: Take, tables: &mut Tables, room: usize) -> bool
     if 22 + tracks::track_most(take.notes.count, end) <= room {
         return true;
     }
-    let n = order::runs(
-        take.notes.words,
-        take.notes.count,
-        &mut tables.starts,
-        &mut tables.ends,
-    );
+    let n = order::runs(take.notes, tables);
     let length = tracks::length_left(take.notes, n, tables, end);
     22 + length <= room
 }
@@ -33,12 +28,7 @@ pub fn put_many(take: Take, tables: &mut Tables, out: &mut [u8]) -> Option<usize
     if !fits(take, tables, out.len()) {
         return None;
     }
-    let n = order::runs(
-        take.notes.words,
-        take.notes.count,
-        &mut tables.starts,
-        &mut tables.ends,
-    );
+    let n = order::runs(take.notes, tables);
     let behind = tracks::put_left(take.notes, n, tables, take.end(), out, 22);
     files::put_header(out, take.delta, (behind - 22) as u32);
     Some(behind)

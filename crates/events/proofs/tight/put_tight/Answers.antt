@@ -11,10 +11,16 @@ loop-v-init c = (tight_start _ _ _, record { starts = refl; ends = refl; next = 
 pub put_tight_bucket-requires : goal.put_tight_bucket-requires
 put_tight_bucket-requires c = rw c.loop-v.invariant.1.ends (tight_bucket c.requires c.loop-v.invariant.0 refl)
 
+pub invariant_of-tables : goal.invariant_of-tables
+invariant_of-tables c =
+    let l = c.loop-v.tables.long in
+    let t = c.put_tight_bucket.ensures.long in
+    record { long = (l.0, l.1, l.2, t.0, t.1, t.2) }
+
 pub loop-v-preserved : goal.loop-v-preserved
 loop-v-preserved c =
     let i = c.loop-v.invariant in
-    let b = rw i.1.ends at c.put_tight_bucket.ensures in
+    let b = rw i.1.ends at c.put_tight_bucket.ensures.put in
     (rw i.1.ends (tight_more c.requires i.0 refl b (omega arith) c.in-Some.is), record { starts = i.1.starts; ends = i.1.ends; next = i.1.next })
 
 pub returns-clause-put : goal.returns-clause-put
@@ -23,6 +29,6 @@ returns-clause-put c =
     elim c.loop-v-test.branch [
       | else-loop-v-test w ↦ rw (w.out-is, w.from-is, w.tick-is) (let e : c.loop-v.v ≡ 2047 = omega (arith, w.loop-v-test.false) in rw e at i.0)
       | then-loop-v-test+in-Some+then-upto-all w ↦ rw (w.out-is, w.from-is, w.tick-is, i.1.ends)
-          (let t = tight_more c.requires i.0 refl (rw i.1.ends at w.put_tight_bucket.ensures) (omega (arith, w.loop-v-test.true)) w.in-Some.is in
+          (let t = tight_more c.requires i.0 refl (rw i.1.ends at w.put_tight_bucket.ensures.put) (omega (arith, w.loop-v-test.true)) w.in-Some.is in
           tight_rest c.requires t (last-start _ _ (rw i.1.ends at w.if-upto-all.true)))
     ]

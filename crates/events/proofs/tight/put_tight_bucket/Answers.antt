@@ -5,8 +5,8 @@ use Rattle.events.proofs.TightLoops.{tight_empty, tight_one}
 use borrow.Author.Rules.{rules}
 use Rattle.events.proofs.tight.put_tight_bucket.Goals as goal
 
-pub returns-then-upto-from : goal.returns-then-upto-from
-returns-then-upto-from c = tight_empty c.requires c.if-upto-from.true
+pub returns-then-upto-from-clause-put : goal.returns-then-upto-from-clause-put
+returns-then-upto-from-clause-put c = tight_empty c.requires c.if-upto-from.true
 
 pub times_short-requires : goal.times_short-requires
 times_short-requires c =

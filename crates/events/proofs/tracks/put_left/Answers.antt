@@ -1,4 +1,5 @@
 -- `events::tracks::put_left` meets its contract.
+use mathlib.Core.Path.{◌∙◌}
 use native.Mathlib.Omega.{arith}
 use Rattle.events.proofs.TrackLoops.{putting_more, putting_over, counting_room, counting_over, left_early, left_window}
 use borrow.Author.Rules.{rules}
@@ -8,19 +9,19 @@ pub take_window-w-requires : goal.take_window-w-requires
 take_window-w-requires c =
     let i = c.loop-left.invariant in
     let l = i.0.counting.ahead in
-    rw i.1 (record { inside = c.args.notes.room; queues = l.queues; lanes = c.requires.0.lanes; room = search rules; here = search rules; behind = l.behind; early = left_early l c.loop-left-test.true; wide = l.wide }, search rules, search rules)
+    rw i.1 (record { queues = l.queues; lanes = c.requires.0.lanes; behind = l.behind; early = left_early l c.loop-left-test.true; wide = l.wide })
 
 pub put_window-r-requires : goal.put_window-r-requires
 put_window-r-requires c =
     let i = c.loop-left.invariant in
-    let w = rw i.1 at c.take_window-w.ensures in
+    let w = rw i.1 at c.take_window-w.ensures.taken in
     (left_window i.0.counting.ahead w (search rules) (omega (arith, c.requires.0.short)), omega (arith, counting_room i.0.counting w (search rules), c.requires.1, i.0.long))
 
 pub loop-left-preserved : goal.loop-left-preserved
 loop-left-preserved c =
     let i = c.loop-left.invariant in
-    let w = rw i.1 at c.take_window-w.ensures in
-    (putting_more i.0 w (search rules) _ _ _ c.loop-left-test.true c.put_window-r.ensures.reached.0 c.put_window-r.ensures.reached.1 c.next_width-width.ensures c.put_window-r.ensures.bytes, i.1)
+    let w = rw i.1 at c.take_window-w.ensures.taken in
+    (putting_more i.0 w (search rules) _ _ _ c.loop-left-test.true c.put_window-r.ensures.reached.0 c.put_window-r.ensures.reached.1 c.next_width-width.ensures c.put_window-r.ensures.bytes, c.take_window-w.ensures.kept ∙ i.1)
 
 pub put_end-requires : goal.put_end-requires
 put_end-requires c = let i = c.loop-left.invariant.0 in (omega (arith, c.requires.0.short), omega (arith, counting_over i.counting c.loop-left-test.false, i.long, c.requires.1))

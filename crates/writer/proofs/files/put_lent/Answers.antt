@@ -11,6 +11,9 @@ plan-requires c =
 
 pub put_wide-requires : goal.put_wide-requires
 put_wide-requires c =
-    let n = c.plan.ensures in
+    let n = c.plan.ensures.planned in
     let w = rw c.end.ensures at c.in-Some.ensures in
     record { fair = n.fair c.if-plan.true; places = n.places c.if-plan.true; fits = w.fits }
+
+pub invariant_of-tables : goal.invariant_of-tables
+invariant_of-tables c = let l = c.args.tables.now.long in record { long = (l.0, c.plan.ensures.long, l.2, l.3, l.4, l.5) }

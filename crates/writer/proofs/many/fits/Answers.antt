@@ -2,14 +2,13 @@
 use native.Mathlib.Omega.{arith}
 use Rattle.writer.proofs.Shelves.{ordered, track_asks}
 use Rattle.writer.proofs.Written.{bound-fits, left-short, counted_fits}
-use borrow.Author.Rules.{rules}
 use Rattle.writer.proofs.many.fits.Goals as goal
 
 pub returns-then-track_most-room : goal.returns-then-track_most-room
 returns-then-track_most-room c = let m = rw c.end-end.ensures at c.track_most.ensures in bound-fits c.args.take.sound _ (omega (arith, c.if-track_most-room.true, m))
 
 pub runs-n-requires : goal.runs-n-requires
-runs-n-requires c = (ordered c.args.take.sound, search rules, search rules)
+runs-n-requires c = ordered c.args.take.sound
 
 pub length_left-length-requires : goal.length_left-length-requires
 length_left-length-requires c =

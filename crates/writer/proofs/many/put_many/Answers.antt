@@ -3,11 +3,10 @@ use mathlib.Core.Path.{sym, ◌∙◌}
 use native.Mathlib.Omega.{arith}
 use Rattle.writer.proofs.Shelves.{ordered, track_asks}
 use Rattle.writer.proofs.Written.{left-short, left-room, header-room, file-put}
-use borrow.Author.Rules.{rules}
 use Rattle.writer.proofs.many.put_many.Goals as goal
 
 pub runs-n-requires : goal.runs-n-requires
-runs-n-requires c = (ordered c.args.take.sound, search rules, search rules)
+runs-n-requires c = ordered c.args.take.sound
 
 pub put_left-behind-requires : goal.put_left-behind-requires
 put_left-behind-requires c =

@@ -1,14 +1,14 @@
--- `writer::few::put_few` meets its contract.
+-- `writer::few::put_lent` meets its contract.
 use mathlib.Core.Path.{ap, ◌∙◌}
 use native.Mathlib.Omega.{arith}
 use Rattle.radix.specs.Sort.{sort}
 use Rattle.writer.proofs.Tables.{sort_asks, table_asks, table_leb}
 use Rattle.writer.proofs.Written.{left-short, left-room, header-room, file-put, file-none}
 use borrow.Author.Rules.{rules}
-use Rattle.writer.proofs.few.put_few.Goals as goal
+use Rattle.writer.proofs.few.put_lent.Goals as goal
 
 pub sort-requires : goal.sort-requires
-sort-requires c = rw c.end-end.ensures (sort_asks c.args.take.sound c.requires.0 c.put_all.ensures (search rules) (search rules) (search rules) c.requires.1)
+sort-requires c = rw c.end-end.ensures (sort_asks c.args.take.sound c.requires.0 c.put_all.ensures (search rules) c.requires.1)
 
 pub fits-requires : goal.fits-requires
 fits-requires c = rw c.end-end.ensures (table_asks c.args.take.sound c.requires.0 (c.sort.ensures ∙ ap sort c.put_all.ensures))
