@@ -3,7 +3,6 @@ use mathlib.Core.Path.{◌≡◌, refl, sym, ap, ◌∙◌}
 use mathlib.Core.Bool.{Bool, true, false, cond, not}
 use mathlib.Core.List.{List, [], ◌∷◌}
 use Prim.Native.Nat.{ℕ, ◌+◌, ◌-◌, ◌≤◌, ◌<◌}
-use native.Mathlib.Nat.{not-suc-le-zero}
 use native.Mathlib.Omega.{arith}
 use borrow.Author.Tests.{lt-ltb, lt-leb, not-true, not-false}
 use lib.Dec.{leb, ltb}
@@ -19,16 +18,15 @@ use Rattle.laws.specs.Accepted.{asked-in_turn}
 use Rattle.midi.specs.Writing.{header_bytes, track_bytes, file_bytes}
 use Rattle.session.proofs.Entries.{Entered, entry_refused}
 use Rattle.session.proofs.Sources.{part_is, part_long}
-use Rattle.std.specs.Prelude.{Err}
+use Rattle.std.proofs.Common.{Option, None, Some, Err}
 use Rattle.model.specs.Numbers.{number_of, answer_of}
 use Rattle.model.proofs.Numbers.{kept}
 use Rattle.model.specs.declared.questions.Question.{Question}
 use Rattle.model.specs.declared.questions.Question.TheVariants.{ShelvesSound, FileFits}
 use Rattle.session.specs.Entering.{entry_asked}
 use Rattle.file.specs.Calls.{shelf_file, file_fits, write_questions, write_number, write_count, write_output}
-use Rattle.writer.proofs.Parts.{file-some}
 use Rattle.writer.proofs.Written.{header-length}
-use Rattle.writer.specs.Files.{PartAsks, file_in, count_of, output_of}
+use Rattle.writer.specs.Files.{PartAsks, file_in, length_in, output_of}
 
 -- ---- the number, the count and the output
 
@@ -94,24 +92,24 @@ module _ (s : List ℕ) (i : ℕ) (h : Header) (e : Entered s i h) (out : List �
       wrote_refused s i out FileFits
       (sym (entered_number ∙ rw (sym f ∙ t, lt-leb (length file) (length out) (omega (arith, short, file_long h (shelf h s i))))))
 
-  module _ {o : Bool} (f : o ≡ sound_shelf h (shelf h s i)) (t : not o ≡ false) (a : PartAsks h (shelf h s i)) {r : ℕ} {after : List ℕ}
-      (counts : r ≡ count_of file out) (leaves : after ≡ output_of file out) where
+  module _ {o : Bool} (f : o ≡ sound_shelf h (shelf h s i)) (t : not o ≡ false) {r : Option ℕ} {after : List ℕ}
+      (counts : r ≡ length_in file out) (leaves : after ≡ output_of file out) where
     sound-number : write_number s i (length out) ≡ cond (leb (length file) (length out)) 0 15
     sound-number = entered_number ∙ rw (sym f ∙ not-false o t)
 
-    pub write_full : r ≡ 0 → Wrote s i out 15 0 after
+    pub write_full : r ≡ None → Wrote s i out 15 0 after
     write_full z = go (leb (length file) (length out)) refl
       where
         go : (b : Bool) → leb (length file) (length out) ≡ b → Wrote s i out 15 0 after
-        go true x = let l : r ≡ length file = counts ∙ rw x in absurd (not-suc-le-zero {n = 0} (omega (arith, z, l, file-some h (shelf h s i) a)))
+        go true x = let l : r ≡ Some (length file) = counts ∙ rw x in absurd (cc)
         go false x = let l : after ≡ out = leaves ∙ rw x in rw l (wrote_refused s i out FileFits (sym (sound-number ∙ rw x)))
 
-    pub write_done : (r ≡ 0 → ⊥) → Wrote s i out 0 r after
-    write_done d = go (leb (length file) (length out)) refl
+    pub write_done : (n : ℕ) → r ≡ Some n → Wrote s i out 0 n after
+    write_done n d = go (leb (length file) (length out)) refl
       where
-        go : (b : Bool) → leb (length file) (length out) ≡ b → Wrote s i out 0 r after
-        go true x = wrote_done s i out (sym (sound-number ∙ rw x)) (counts ∙ rw x (ap length file_same)) (leaves ∙ rw x (ap (splice out 0) file_same))
-        go false x = absurd (d (counts ∙ rw x))
+        go : (b : Bool) → leb (length file) (length out) ≡ b → Wrote s i out 0 n after
+        go true x = let l : r ≡ Some (length file) = counts ∙ rw x in let m : n ≡ length file = cc in wrote_done s i out (sym (sound-number ∙ rw x)) (m ∙ ap length file_same) (leaves ∙ rw x (ap (splice out 0) file_same))
+        go false x = let l : r ≡ None = counts ∙ rw x in absurd (cc)
 
 -- ---- the part of the session that the shelf is
 
@@ -129,7 +127,7 @@ module _ (h : Header) (s : List ℕ) (i : ℕ) (range : InRange h (length s)) (b
   pub part_sound : {o : Bool} → o ≡ sound_shelf h (take (at + h.words - at) (drop at s)) → not o ≡ false → PartAsks h (shelf h s i)
   part_sound e t = rw (part_is h s i range below-K place) at (part_asks e t)
 
-  pub part_wrote : (out : List ℕ) {r : ℕ} {after : List ℕ}
-      → (r ≡ count_of (file_in h (take (at + h.words - at) (drop at s))) out) × (after ≡ output_of (file_in h (take (at + h.words - at) (drop at s))) out)
-      → (r ≡ count_of (file_in h (shelf h s i)) out) × (after ≡ output_of (file_in h (shelf h s i)) out)
+  pub part_wrote : (out : List ℕ) {r : Option ℕ} {after : List ℕ}
+      → (r ≡ length_in (file_in h (take (at + h.words - at) (drop at s))) out) × (after ≡ output_of (file_in h (take (at + h.words - at) (drop at s))) out)
+      → (r ≡ length_in (file_in h (shelf h s i)) out) × (after ≡ output_of (file_in h (shelf h s i)) out)
   part_wrote out w = rw (part_is h s i range below-K place) at w

@@ -33,10 +33,11 @@ pub fn take_write(
     if !sound::sound(header, &session[at..end]) {
         return Err(Question::ShelvesSound);
     }
-    let size = files::put_shelf_file(header, &session[at..end], output);
-    if size == 0 {
-        return Err(Question::FileFits);
+    match files::put_shelf_file(header, &session[at..end], output) {
+        Some(size) => {
+            *count = size as u64;
+            Ok(())
+        }
+        None => Err(Question::FileFits),
     }
-    *count = size as u64;
-    Ok(())
 }

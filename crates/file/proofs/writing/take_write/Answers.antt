@@ -1,5 +1,5 @@
 -- `file::writing::take_write` meets its contract.
-use Rattle.file.proofs.Writes.{entered_range, entered_below, part_asks, part_sound, part_wrote, write_refused, write_unsound, write_short, write_full, write_done}
+use Rattle.file.proofs.Writes.{entered_range, entered_below, part_asks, part_wrote, write_refused, write_unsound, write_short, write_full, write_done}
 use Rattle.session.proofs.Sources.{place_asks, inside_session, sound_asks, sound_is}
 use Rattle.session.proofs.Entries.{granted_means}
 use Rattle.model.specs.Numbers.{answer_number}
@@ -57,21 +57,21 @@ offset_bounds-session-at-3 c = let e = granted_means _ _ _ c.in_ok-header.ensure
 pub slice_bounds-put_shelf_file-end : goal.slice_bounds-put_shelf_file-end
 slice_bounds-put_shelf_file-end c = let e = granted_means _ _ _ c.in_ok-header.ensures in omega (arith, inside_session (entered_range e) (entered_below e) c.shelf_at-at.ensures)
 
-pub put_shelf_file-size-requires : goal.put_shelf_file-size-requires
-put_shelf_file-size-requires c = let e = granted_means _ _ _ c.in_ok-header.ensures in part_asks _ _ _ (entered_range e) (entered_below e) c.shelf_at-at.ensures c.sound-2.ensures (ap not c.if-not-sound.false)
+pub put_shelf_file-requires : goal.put_shelf_file-requires
+put_shelf_file-requires c = let e = granted_means _ _ _ c.in_ok-header.ensures in part_asks _ _ _ (entered_range e) (entered_below e) c.shelf_at-at.ensures c.sound-2.ensures (ap not c.if-not-sound.false)
 
-pub returns-then-size-eq0 : goal.returns-then-size-eq0
-returns-then-size-eq0 c =
+pub returns-in-Some : goal.returns-in-Some
+returns-in-Some c =
     let e = granted_means _ _ _ c.in_ok-header.ensures in
-    let p = part_wrote _ _ _ (entered_range e) (entered_below e) c.shelf_at-at.ensures c.args.output.now c.put_shelf_file-size.ensures in
-    let all = write_full _ _ _ e c.args.output.now (sound_is _ _ _ (entered_range e) (entered_below e) c.shelf_at-at.ensures c.sound-2.ensures) (ap not c.if-not-sound.false) (part_sound _ _ _ (entered_range e) (entered_below e) c.shelf_at-at.ensures c.sound-2.ensures (ap not c.if-not-sound.false)) p.0 p.1 c.if-size-eq0.true in
+    let p = part_wrote _ _ _ (entered_range e) (entered_below e) c.shelf_at-at.ensures c.args.output.now c.put_shelf_file.ensures in
+    let all = write_done _ _ _ e c.args.output.now (sound_is _ _ _ (entered_range e) (entered_below e) c.shelf_at-at.ensures c.sound-2.ensures) (ap not c.if-not-sound.false) p.0 p.1 _ c.in-Some.is in
     record { number = all.0; count = all.1.0; output = all.1.1 }
 
-pub returns : goal.returns
-returns c =
+pub returns-in-None : goal.returns-in-None
+returns-in-None c =
     let e = granted_means _ _ _ c.in_ok-header.ensures in
-    let p = part_wrote _ _ _ (entered_range e) (entered_below e) c.shelf_at-at.ensures c.args.output.now c.put_shelf_file-size.ensures in
-    let all = write_done _ _ _ e c.args.output.now (sound_is _ _ _ (entered_range e) (entered_below e) c.shelf_at-at.ensures c.sound-2.ensures) (ap not c.if-not-sound.false) (part_sound _ _ _ (entered_range e) (entered_below e) c.shelf_at-at.ensures c.sound-2.ensures (ap not c.if-not-sound.false)) p.0 p.1 c.if-size-eq0.false in
+    let p = part_wrote _ _ _ (entered_range e) (entered_below e) c.shelf_at-at.ensures c.args.output.now c.put_shelf_file.ensures in
+    let all = write_full _ _ _ e c.args.output.now (sound_is _ _ _ (entered_range e) (entered_below e) c.shelf_at-at.ensures c.sound-2.ensures) (ap not c.if-not-sound.false) p.0 p.1 c.in-None.is in
     record { number = all.0; count = all.1.0; output = all.1.1 }
 
 pub returns-in_err-header : goal.returns-in_err-header
