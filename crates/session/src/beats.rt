@@ -21,7 +21,7 @@ impl Divisor {
     {
         Divisor {
             delta,
-            reciprocal: 4398046511104 / (delta as u64) + 1,
+            reciprocal: reciprocal(delta),
         }
     }
 
@@ -40,12 +40,4 @@ pub fn reciprocal(delta: u32) -> u64
     ensures { result ≡ reciprocal_of delta }
 {
     4398046511104 / (delta as u64) + 1
-}
-
-// The beat of a tick of a take. δ itself is there for the contract: the product needs only its reciprocal.
-pub fn beat_of(delta: u32, reciprocal: u64, tick: u32) -> u32
-    requires { (0 < delta) × (delta ≤ max_delta) × (tick ≤ max_beats * delta) × (reciprocal ≡ reciprocal_of delta) }
-    ensures { result ≡ tick / delta }
-{
-    Divisor { delta, reciprocal }.beat_of(tick)
 }

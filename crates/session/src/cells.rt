@@ -26,20 +26,3 @@ impl Divisor {
         self.line_sides(n.end) - self.line_sides(n.start)
     }
 }
-
-// The sides of beat lines before a tick: two for each whole beat, one more inside a beat.
-pub fn line_sides(delta: u32, reciprocal: u64, tick: u32) -> u32
-    requires { (0 < delta) × (delta ≤ max_delta) × (tick ≤ max_beats * delta) × (reciprocal ≡ reciprocal_of delta) }
-    ensures { result ≡ line_sides delta tick }
-{
-    Divisor { delta, reciprocal }.line_sides(tick)
-}
-
-// How many cells a note has: two at each line that it crosses, one at a line where it starts or ends. With the reciprocal of δ it
-// divides by products.
-pub fn cell_count_by(delta: u32, reciprocal: u64, n: Note) -> u32
-    requires { (0 < delta) × (delta ≤ max_delta) × (n.start < n.end) × (n.end ≤ max_beats * delta) × (reciprocal ≡ reciprocal_of delta) }
-    ensures { result ≡ length (cells_of_note delta n) }
-{
-    Divisor { delta, reciprocal }.cell_count(n)
-}

@@ -4,7 +4,8 @@ ghost use Rattle.model.specs.Limits.{max_beats, max_delta};
 ghost use Rattle.model.specs.Numbers.{answer_of};
 ghost use Rattle.session.specs.Listing.{count_words, list_asked};
 
-use crate::{beats, cells, notes};
+use crate::beats::Divisor;
+use crate::notes;
 use model::Header;
 use model::questions::Question;
 
@@ -16,7 +17,7 @@ pub fn check_list(h: Header, beats: u32, list: &[u32]) -> Result<u64, Question>
     if list.len() % 4 != 0 {
         return Err(Question::ListInOrder);
     }
-    let reciprocal = beats::reciprocal(h.delta);
+    let by = Divisor::new(h.delta);
     let mut last = notes::before_all();
     let mut cells: u64 = 0;
     let mut at = 0;
@@ -28,7 +29,7 @@ pub fn check_list(h: Header, beats: u32, list: &[u32]) -> Result<u64, Question>
         if !notes::note_follows(last, note) {
             return Err(Question::ListInOrder);
         }
-        cells += cells::cell_count_by(h.delta, reciprocal, note) as u64;
+        cells += by.cell_count(note) as u64;
         last = note;
         at += 4;
     }

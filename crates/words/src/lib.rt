@@ -1,7 +1,7 @@
 // Writing into a list: fill with zeros, put a few items, copy a run.
 #![tactic(auto)]
 
-ghost use Rattle.std.specs.Prelude.{◌≡◌, [], ◌∷◌, ◌+◌, ◌-◌, ◌≤◌, length, take, drop, replicate};
+ghost use Rattle.std.specs.Prelude.{◌≡◌, ◌+◌, ◌-◌, ◌≤◌, length, take, drop, replicate};
 ghost use Rattle.words.specs.Splice.{splice};
 
 pub mod sums;
@@ -22,30 +22,6 @@ pub fn put<T: Copy, const N: usize>(s: &mut [T], at: usize, items: [T; N])
     ensures { s.new ≡ splice s.old at items }
 {
     s[at..at + N].copy_from_slice(&items);
-}
-
-// Writes three words from place `at` on.
-pub fn put_three(s: &mut [u32], at: usize, a: u32, b: u32, c: u32)
-    requires { at + 3 ≤ length s.old }
-    ensures { s.new ≡ splice s.old at (a ∷ b ∷ c ∷ []) }
-{
-    put(s, at, [a, b, c]);
-}
-
-// Writes four words from place `at` on.
-pub fn put_four(s: &mut [u32], at: usize, a: u32, b: u32, c: u32, d: u32)
-    requires { at + 4 ≤ length s.old }
-    ensures { s.new ≡ splice s.old at (a ∷ b ∷ c ∷ d ∷ []) }
-{
-    put(s, at, [a, b, c, d]);
-}
-
-// Writes six words from place `at` on.
-pub fn put_six(s: &mut [u32], at: usize, a: u32, b: u32, c: u32, d: u32, e: u32, f: u32)
-    requires { at + 6 ≤ length s.old }
-    ensures { s.new ≡ splice s.old at (a ∷ b ∷ c ∷ d ∷ e ∷ f ∷ []) }
-{
-    put(s, at, [a, b, c, d, e, f]);
 }
 
 // Copies `count` words from place `from` of another list to place `to`.

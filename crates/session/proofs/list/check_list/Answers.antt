@@ -1,7 +1,9 @@
 -- `session::list::check_list` meets its contract. The measure is how many words are left.
 use Rattle.laws.specs.Notes.{fair}
 use Rattle.session.proofs.Checks.{checked-start, checked-done, room_for_note, not_ranged, not_follows, checked-note, count_small, count_asks, not_whole, not_ok, counted}
-use mathlib.Core.Path.{sym, ◌∙◌}
+use mathlib.Core.Path.{sym, ap, ◌∙◌}
+use lib.ListN.{length}
+use Rattle.model.specs.Pieces.{cells_of_note}
 use native.Mathlib.Omega.{arith}
 use Rattle.session.proofs.list.check_list.Goals as goal
 
@@ -20,19 +22,19 @@ returns-then-not-note_ok c = not_ok _ _ _ (not_ranged _ _ _ c.loop-at.invariant 
 pub returns-then-not-note_follows : goal.returns-then-not-note_follows
 returns-then-not-note_follows c = not_ok _ _ _ (not_follows _ _ _ c.loop-at.invariant c.loop-at-test.true c.note_at-note.ensures (sym c.note_follows.ensures ∙ c.if-not-note_follows.true))
 
-pub cell_count_by-requires : goal.cell_count_by-requires
-cell_count_by-requires c =
+pub cell_count-requires : goal.cell_count-requires
+cell_count-requires c =
     let asks = count_asks _ _ _ c.requires (fair _ _ _ (sym c.note_ok.ensures ∙ c.if-not-note_ok.false)) in
-    (asks.0, asks.1, asks.2, asks.3, c.reciprocal-reciprocal.ensures)
+    rw c.new-by.ensures (asks.2, asks.3)
 
 pub overflow_add-cells : goal.overflow_add-cells
-overflow_add-cells c = omega (arith, count_small _ _ _ (checked-note _ _ _ c.loop-at.invariant c.loop-at-test.true c.note_at-note.ensures c.requires (sym c.note_ok.ensures ∙ c.if-not-note_ok.false) (sym c.note_follows.ensures ∙ c.if-not-note_follows.false) c.cell_count_by.ensures) c.requires)
+overflow_add-cells c = omega (arith, count_small _ _ _ (checked-note _ _ _ c.loop-at.invariant c.loop-at-test.true c.note_at-note.ensures c.requires (sym c.note_ok.ensures ∙ c.if-not-note_ok.false) (sym c.note_follows.ensures ∙ c.if-not-note_follows.false) (c.cell_count.ensures ∙ ap (λ δ. length (cells_of_note δ c.note_at-note.result)) c.new-by.ensures)) c.requires)
 
 pub overflow_add-at : goal.overflow_add-at
 overflow_add-at c = omega (arith, room_for_note _ _ _ c.loop-at.invariant c.loop-at-test.true)
 
 pub loop-at-preserved : goal.loop-at-preserved
-loop-at-preserved c = checked-note _ _ _ c.loop-at.invariant c.loop-at-test.true c.note_at-note.ensures c.requires (sym c.note_ok.ensures ∙ c.if-not-note_ok.false) (sym c.note_follows.ensures ∙ c.if-not-note_follows.false) c.cell_count_by.ensures
+loop-at-preserved c = checked-note _ _ _ c.loop-at.invariant c.loop-at-test.true c.note_at-note.ensures c.requires (sym c.note_ok.ensures ∙ c.if-not-note_ok.false) (sym c.note_follows.ensures ∙ c.if-not-note_follows.false) (c.cell_count.ensures ∙ ap (λ δ. length (cells_of_note δ c.note_at-note.result)) c.new-by.ensures)
 
 pub returns : goal.returns
 returns c =
