@@ -8,3 +8,4 @@ pub mod Windows
 pub mod Gathering
 pub mod Blocks
 pub mod Taking
+pub mod Steps
