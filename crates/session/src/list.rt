@@ -20,8 +20,7 @@ pub fn check_list(h: Header, beats: u32, list: &[u32]) -> Result<u64, Question>
     let by = Divisor::new(h.delta);
     let mut last = notes::before_all();
     let mut cells: u64 = 0;
-    let mut at = 0;
-    while at < list.len() {
+    for at in (0..list.len()).step_by(4) {
         let note = notes::note_at(list, at);
         if !notes::note_ok(h.delta, beats, note) {
             return Err(Question::ListInOrder);
@@ -31,7 +30,6 @@ pub fn check_list(h: Header, beats: u32, list: &[u32]) -> Result<u64, Question>
         }
         cells += by.cell_count(note) as u64;
         last = note;
-        at += 4;
     }
     Ok(cells)
 }

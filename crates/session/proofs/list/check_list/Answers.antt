@@ -30,13 +30,16 @@ cell_count-requires c =
 pub overflow_add-cells : goal.overflow_add-cells
 overflow_add-cells c = omega (arith, count_small _ _ _ (checked-note _ _ _ c.loop-at.invariant c.loop-at-test.true c.note_at-note.ensures c.requires (sym c.note_ok.ensures ∙ c.if-not-note_ok.false) (sym c.note_follows.ensures ∙ c.if-not-note_follows.false) (c.cell_count.ensures ∙ ap (λ δ. length (cells_of_note δ c.note_at-note.result)) c.new-by.ensures)) c.requires)
 
-pub overflow_add-at : goal.overflow_add-at
-overflow_add-at c = omega (arith, room_for_note _ _ _ c.loop-at.invariant c.loop-at-test.true)
-
 pub loop-at-preserved : goal.loop-at-preserved
 loop-at-preserved c = checked-note _ _ _ c.loop-at.invariant c.loop-at-test.true c.note_at-note.ensures c.requires (sym c.note_ok.ensures ∙ c.if-not-note_ok.false) (sym c.note_follows.ensures ∙ c.if-not-note_follows.false) (c.cell_count.ensures ∙ ap (λ δ. length (cells_of_note δ c.note_at-note.result)) c.new-by.ensures)
 
-pub returns : goal.returns
-returns c =
+pub returns-else-list-ne0 : goal.returns-else-list-ne0
+returns-else-list-ne0 c =
     let done = checked-done _ _ _ c.loop-at.invariant c.loop-at-test.false in
+    counted _ _ _ c.if-list-ne0.false done.0 _ done.1
+
+pub returns-else-not-note_follows : goal.returns-else-not-note_follows
+returns-else-not-note_follows c =
+    let next = checked-note _ _ _ c.loop-at.invariant c.loop-at-test.true c.note_at-note.ensures c.requires (sym c.note_ok.ensures ∙ c.if-not-note_ok.false) (sym c.note_follows.ensures ∙ c.if-not-note_follows.false) c.cell_count_by.ensures in
+    let done = checked-done _ _ _ next (omega arith) in
     counted _ _ _ c.if-list-ne0.false done.0 _ done.1
