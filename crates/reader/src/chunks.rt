@@ -8,7 +8,7 @@ ghost use Rattle.reader.specs.Chunks.{place_of, chunk_place, track_place};
 use model::questions::Question;
 use track::bytes;
 
-// Where the track is: the position of its first byte, and the position behind its last.
+// Where the track is: the position of its first byte, and the position behind its last. Positions, and no slice: they are what is promised.
 #[derive(Clone, Copy)]
 pub struct Found {
     pub at: usize,

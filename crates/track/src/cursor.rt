@@ -10,7 +10,8 @@ use crate::quantities;
 // FF 2F: the end of track.
 const END: u8 = 47;
 
-// Where reading stands: the position in the track, the tick of the last event, the running status in force (0: none).
+// Where reading stands: the position in the track, the tick of the last event, the running status in force (0: none). It is a byte, as in the
+// definition of a place: an Option would be no plainer, since no status is 0.
 #[derive(Clone, Copy)]
 pub struct Cursor {
     pub at: usize,
