@@ -12,6 +12,9 @@ use Rattle.model.specs.Session.{session_length, words_of_header, fresh_words}
 use Rattle.model.specs.Machine.{open_call, lay_call, split_call, join_call}
 use Rattle.model.specs.Questions.{header_ok, number, after}
 use Rattle.model.specs.declared.Header.{Header}
+use Rattle.model.specs.Numbers as Numbers
+use Rattle.model.specs.declared.questions.Question.{Question}
+use Rattle.model.specs.declared.questions.Question.TheVariants.{HeaderInRange, ShelvesBelow, ShelvesDiffer, ShelvesSound, BeatWithin, BeatsFew, ListInOrder, ResultFits, FileHeader, FileFormat, TrackReached, EventLegal, TimeWithin, LaneSilent, FileFits}
 use Rattle.laws.specs.Accepted.{yes_all}
 use Rattle.laws.specs.Booleans.{and_no}
 use Rattle.midi.specs.Numbers.{word32}
@@ -19,27 +22,29 @@ use Rattle.file.specs.Calls.{shelf_file, file_fits, write_questions, write_numbe
 use Rattle.beat.proofs.Opens.{open_refused, open_done}
 use Rattle.frames.specs.Lines.{Frame, malformed, open_frame, lay_frame, split_frame, join_frame, write_frame, load_frame, arguments, open_of, lay_of, split_of, join_of, write_of, load_of}
 use Rattle.frames.specs.Answers.{opens, number_of, session_after, file_after}
-use Rattle.frames.specs.Calling.{asked_of, number_in, words_in, Changed, Wrote}
+use Rattle.frames.specs.Calling.{refusal_number, number_in, words_in, Changed, Wrote}
 use Rattle.frames.specs.declared.calls.Refusal.{Refusal}
-use Rattle.frames.specs.declared.calls.Refusal.TheVariants.{Malformed, Question}
+use Rattle.frames.specs.declared.calls.Refusal.TheVariants.{Malformed, AnsweredNo}
 use Rattle.frames.proofs.Words.{words_err, words_ok}
 
--- ---- a call's number
+-- ---- the number of a question
 
-number_asked : (q : ℕ) → number_in (asked_of q) ≡ q
-number_asked zero = refl
-number_asked (suc q) = refl
-
-refused_number : {q : ℕ} {r : Refusal} → Err r ≡ asked_of q → number_in {T = Unit {0}} (Err r) ≡ q
-refused_number {q} e = ap number_in e ∙ number_asked q
-
-refused_some : {q : ℕ} {r : Refusal} → Err r ≡ asked_of q → q ≡ 0 → ⊥
-refused_some {q = zero} e z = absurd (cc)
-refused_some {q = suc q} e z = omega arith
-
-accepted_none : {q : ℕ} → Ok tt ≡ asked_of q → q ≡ 0
-accepted_none {q = zero} e = refl
-accepted_none {q = suc q} e = absurd (cc)
+pub question_some : (q : Question) → Numbers.number_of q ≡ 0 → ⊥
+question_some HeaderInRange e = omega arith
+question_some ShelvesBelow e = omega arith
+question_some ShelvesDiffer e = omega arith
+question_some ShelvesSound e = omega arith
+question_some BeatWithin e = omega arith
+question_some BeatsFew e = omega arith
+question_some ListInOrder e = omega arith
+question_some ResultFits e = omega arith
+question_some FileHeader e = omega arith
+question_some FileFormat e = omega arith
+question_some TrackReached e = omega arith
+question_some EventLegal e = omega arith
+question_some TimeWithin e = omega arith
+question_some LaneSilent e = omega arith
+question_some FileFits e = omega arith
 
 -- ---- lay, split, join and load
 
@@ -48,8 +53,9 @@ pub nothing : (s : List ℕ) {f : Frame} → f ≡ malformed → Changed s f s (
 unfolding number_of session_after file_after
 nothing s e = record { number = rw e; session = rw e; file = rw e }
 
-changed : {s : List ℕ} {f : Frame} {t : List ℕ} {q : ℕ} → (q ≡ number_of s f) × (t ≡ session_after s f) → file_after s f ≡ [] → Changed s f t (asked_of q)
-changed {q = q} done none = record { number = number_asked q ∙ done.0; session = done.1; file = none }
+changed : {s : List ℕ} {f : Frame} {t : List ℕ} {q : ℕ} → (q ≡ number_of s f) × (t ≡ session_after s f) → file_after s f ≡ [] → {r : Result (Unit {0}) Refusal}
+    → number_in r ≡ q → Changed s f t r
+changed done none is = record { number = is ∙ done.0; session = done.1; file = none }
 
 module _ (s bytes : List ℕ) where
   pub split_wrong : {r : Refusal} → Err r ≡ words_in 4 bytes → Changed s (split_of bytes) s (Err r)
@@ -59,11 +65,11 @@ module _ (s bytes : List ℕ) where
   pub split_done : {ws : List ℕ} → Ok ws ≡ words_in 4 bytes → {t : List ℕ} {q : ℕ}
       → (q ≡ number s (split_call (get_or ws 0 0) (get_or ws 1 0) (get_or ws 2 0) (get_or ws 3 0)))
       × (t ≡ after s (split_call (get_or ws 0 0) (get_or ws 1 0) (get_or ws 2 0) (get_or ws 3 0)))
-      → Changed s (split_of bytes) t (asked_of q)
+      → {r : Result (Unit {0}) Refusal} → number_in r ≡ q → Changed s (split_of bytes) t r
   unfolding split_of arguments number_of session_after file_after
-  split_done e done =
+  split_done e done {r} is =
       let w = words_ok 4 bytes (split_frame (word32 bytes 0) (word32 bytes 4) (word32 bytes 8) (word32 bytes 12)) e in
-      rw w.1 (changed {f = split_frame (word32 bytes 0) (word32 bytes 4) (word32 bytes 8) (word32 bytes 12)} (rw w.0 at done) refl)
+      rw w.1 (changed {f = split_frame (word32 bytes 0) (word32 bytes 4) (word32 bytes 8) (word32 bytes 12)} (rw w.0 at done) refl is)
 
   pub join_wrong : {r : Refusal} → Err r ≡ words_in 3 bytes → Changed s (join_of bytes) s (Err r)
   unfolding join_of
@@ -71,11 +77,11 @@ module _ (s bytes : List ℕ) where
 
   pub join-done : {ws : List ℕ} → Ok ws ≡ words_in 3 bytes → {t : List ℕ} {q : ℕ}
       → (q ≡ number s (join_call (get_or ws 0 0) (get_or ws 1 0) (get_or ws 2 0))) × (t ≡ after s (join_call (get_or ws 0 0) (get_or ws 1 0) (get_or ws 2 0)))
-      → Changed s (join_of bytes) t (asked_of q)
+      → {r : Result (Unit {0}) Refusal} → number_in r ≡ q → Changed s (join_of bytes) t r
   unfolding join_of arguments number_of session_after file_after
-  join-done e done =
+  join-done e done {r} is =
       let w = words_ok 3 bytes (join_frame (word32 bytes 0) (word32 bytes 4) (word32 bytes 8)) e in
-      rw w.1 (changed {f = join_frame (word32 bytes 0) (word32 bytes 4) (word32 bytes 8)} (rw w.0 at done) refl)
+      rw w.1 (changed {f = join_frame (word32 bytes 0) (word32 bytes 4) (word32 bytes 8)} (rw w.0 at done) refl is)
 
   pub lay-short : length bytes < 8 → Changed s (lay_of bytes) s (Err Malformed)
   unfolding lay_of
@@ -87,10 +93,10 @@ module _ (s bytes : List ℕ) where
 
   pub lay_done : 8 ≤ length bytes → length bytes % 4 ≡ 0 → {i beats n : ℕ} {ws : List ℕ} → i ≡ word32 bytes 0 → beats ≡ word32 bytes 4
       → n ≡ (length bytes - 8) / 4 → ws ≡ arguments n bytes 2
-      → {t : List ℕ} {q : ℕ} → (q ≡ number s (lay_call i beats ws)) × (t ≡ after s (lay_call i beats ws)) → Changed s (lay_of bytes) t (asked_of q)
+      → {t : List ℕ} {q : ℕ} → (q ≡ number s (lay_call i beats ws)) × (t ≡ after s (lay_call i beats ws)) → {r : Result (Unit {0}) Refusal} → number_in r ≡ q → Changed s (lay_of bytes) t r
   unfolding lay_of number_of session_after file_after
-  lay_done low whole {i} {beats} {n} {ws} a b c d done =
-      rw (le-leb 8 (length bytes) low, eq-eqb (length bytes % 4) 0 whole, ← a, ← b, ← c, ← d) (changed {f = lay_frame i beats ws} done refl)
+  lay_done low whole {i} {beats} {n} {ws} a b c d done {r} is =
+      rw (le-leb 8 (length bytes) low, eq-eqb (length bytes % 4) 0 whole, ← a, ← b, ← c, ← d) (changed {f = lay_frame i beats ws} done refl is)
 
   pub load_short : length bytes < 4 → Changed s (load_of bytes) s (Err Malformed)
   unfolding load_of
@@ -98,11 +104,11 @@ module _ (s bytes : List ℕ) where
 
   pub load_done : 4 ≤ length bytes → {i : ℕ} → i ≡ word32 bytes 0 → {t : List ℕ} {q : ℕ}
       → (q ≡ load_number s i (take (length bytes - 4) (drop 4 bytes))) × (t ≡ load_after s i (take (length bytes - 4) (drop 4 bytes)))
-      → Changed s (load_of bytes) t (asked_of q)
+      → {r : Result (Unit {0}) Refusal} → number_in r ≡ q → Changed s (load_of bytes) t r
   unfolding load_of number_of session_after file_after
-  load_done low {i} a {t} {q} done =
+  load_done low {i} a {t} {q} done {r} is =
       let whole : take (length bytes - 4) (drop 4 bytes) ≡ drop 4 bytes = take_all (length bytes - 4) (drop 4 bytes) (omega (arith, length-drop 4 bytes)) in
-      rw (le-leb 4 (length bytes) low, ← a) (changed {f = load_frame i (drop 4 bytes)} (rw whole at done) refl)
+      rw (le-leb 4 (length bytes) low, ← a) (changed {f = load_frame i (drop 4 bytes)} (rw whole at done) refl is)
 
 -- ---- write
 
@@ -124,20 +130,20 @@ module _ (s bytes out : List ℕ) where
   write_named given = let w = words_ok 1 bytes (write_frame (word32 bytes 0)) given in (ap (λ (l : List ℕ). get_or l 0 0) w.0, w.1)
 
   module _ {i : ℕ} (named : (i ≡ word32 bytes 0) × (write_of bytes ≡ write_frame (word32 bytes 0))) {q : ℕ} (is : q ≡ write_number s i 8192) where
-    pub write_refused : {r : Refusal} → Err r ≡ asked_of q → Wrote s (write_of bytes) out (Err r)
+    pub write_refused : {r : Refusal} → (q ≡ 0 → ⊥) → refusal_number r ≡ q → Wrote s (write_of bytes) out (Err r)
     unfolding number_of file_after
-    write_refused {r} e =
-        rw (named.1, ← named.0) (record { number = refused_number e ∙ is; file = go (write_number s i 8192) refl (λ z. refused_some e (is ∙ z)) })
+    write_refused {r} differs e =
+        rw (named.1, ← named.0) (record { number = e ∙ is; file = go (write_number s i 8192) refl (λ z. differs (is ∙ z)) })
       where
         go : (m : ℕ) → write_number s i 8192 ≡ m → (m ≡ 0 → ⊥) → file_after s (write_frame i) ≡ []
         go zero m some = absurd (some refl)
         go (suc k) m some = rw (m, file_after)
 
-    pub write_accepted : Ok tt ≡ asked_of q → length out ≡ 8192 → {out' : List ℕ} {n : ℕ} → n ≡ write_count s i 8192 → out' ≡ write_output s i out
+    pub write_accepted : q ≡ 0 → length out ≡ 8192 → {out' : List ℕ} {n : ℕ} → n ≡ write_count s i 8192 → out' ≡ write_output s i out
         → Wrote s (write_of bytes) out' (Ok n)
     unfolding number_of file_after write_count write_output
     write_accepted e room {out'} {n} is-count is-out =
-        let m : write_number s i 8192 ≡ 0 = sym is ∙ accepted_none e in
+        let m : write_number s i 8192 ≡ 0 = sym is ∙ e in
         let m' : write_number s i (length out) ≡ 0 = rw (← room) at m in
         let count : n ≡ length (shelf_file s i) = is-count ∙ rw (m, write_count) in
         let made : out' ≡ splice out 0 (shelf_file s i) = is-out ∙ rw (m', write_output) in
@@ -177,7 +183,7 @@ module _ (s bytes : List ℕ) where
     unfolding open_of arguments
     right = let w = words_ok 4 bytes (open_frame asked_header) given in w.1 ∙ rw w.0 refl
 
-    pub open_large : 8192 < session_length (header ws) → Changed s (open_of bytes) s (Err (Question 1))
+    pub open_large : 8192 < session_length (header ws) → Changed s (open_of bytes) s (Err (AnsweredNo HeaderInRange))
     unfolding number_of session_after file_after opens
     open_large large =
         let over : leb (session_length (header ws)) 8192 ≡ false = lt-leb (session_length (header ws)) 8192 large in
@@ -191,28 +197,28 @@ module _ (s bytes : List ℕ) where
       yes = le-leb (session_length (header ws)) 8192 fits
 
       -- a refused open leaves the words as they were
-      pub open_same : {r : Refusal} → Err r ≡ asked_of q → p ++ drop (session_length (header ws)) words ≡ words
+      pub open_same : (q ≡ 0 → ⊥) → p ++ drop (session_length (header ws)) words ≡ words
       unfolding number_of session_after file_after opens
       open_same e = go (header_ok (header ws) (session_length (header ws))) refl where
         go : (b : Bool) → header_ok (header ws) (session_length (header ws)) ≡ b → p ++ drop (session_length (header ws)) words ≡ words
-        go true h = absurd (refused_some e (done.0 ∙ sym (open_done (take (session_length (header ws)) words) (header ws) (rw given_length h) refl).0))
+        go true h = absurd (e (done.0 ∙ sym (open_done (take (session_length (header ws)) words) (header ws) (rw given_length h) refl).0))
         go false h =
             rw (done.1 ∙ sym (open_refused (take (session_length (header ws)) words) (header ws) (rw given_length h)).1)
             (take-append-drop (session_length (header ws)) words)
 
-      pub open_kept : {r : Refusal} → Err r ≡ asked_of q → Changed s (open_of bytes) s (Err r)
+      pub open_kept : (q ≡ 0 → ⊥) → {r : Refusal} → refusal_number r ≡ q → Changed s (open_of bytes) s (Err r)
       unfolding number_of session_after file_after opens
-      open_kept {r} e = rw right (go (header_ok (header ws) (session_length (header ws))) refl) where
+      open_kept e {r} is = rw right (go (header_ok (header ws) (session_length (header ws))) refl) where
         go : (b : Bool) → header_ok (header ws) (session_length (header ws)) ≡ b → Changed s (open_frame (header ws)) s (Err r)
-        go true h = absurd (refused_some e (done.0 ∙ sym (open_done (take (session_length (header ws)) words) (header ws) (rw given_length h) refl).0))
+        go true h = absurd (e (done.0 ∙ sym (open_done (take (session_length (header ws)) words) (header ws) (rw given_length h) refl).0))
         go false h =
             record {
-              number = refused_number e ∙ done.0 ∙ sym (open_refused (take (session_length (header ws)) words) (header ws) (rw given_length h)).0 ∙ rw (yes, h);
+              number = is ∙ done.0 ∙ sym (open_refused (take (session_length (header ws)) words) (header ws) (rw given_length h)).0 ∙ rw (yes, h);
               session = rw (yes, h);
               file = refl;
             }
 
-      pub open_accepted : Ok tt ≡ asked_of q → Changed s (open_of bytes) (take (session_length (header ws)) (p ++ drop (session_length (header ws)) words)) (Ok tt)
+      pub open_accepted : q ≡ 0 → Changed s (open_of bytes) (take (session_length (header ws)) (p ++ drop (session_length (header ws)) words)) (Ok tt)
       unfolding number_of session_after file_after opens
       open_accepted e = rw right (go (header_ok (header ws) (session_length (header ws))) refl) where
         go : (b : Bool) → header_ok (header ws) (session_length (header ws)) ≡ b
@@ -227,5 +233,5 @@ module _ (s bytes : List ℕ) where
             }
         go false h =
             let one = (open_refused (take (session_length (header ws)) words) (header ws) (rw given_length h)).0 in
-            let wrong : ◌≡◌ {A = ℕ} 0 1 = sym (accepted_none e) ∙ done.0 ∙ sym one in
+            let wrong : ◌≡◌ {A = ℕ} 0 1 = sym e ∙ done.0 ∙ sym one in
             absurd (omega arith)

@@ -22,50 +22,6 @@ use Rattle.frames.specs.declared.calls.Refusal.{Refusal}
 use Rattle.frames.proofs.Putting.{length-digits_of}
 use Rattle.frames.proofs.Carried.{nothing}
 
--- ---- numbers have two digits
-
-first_few : (qs : List (ℕ × Bool)) → All (λ q. q.0 ≤ 255) qs → first_no qs ≤ 255
-unfolding first_no
-first_few [] p = omega arith
-first_few ((n, true) ∷ qs) p = first_few qs p.1
-first_few ((n, false) ∷ qs) p = p.0
-
-one_few : (b : Bool) → cond b 0 1 ≤ 255
-one_few true = omega arith
-one_few false = omega arith
-
--- a file is refused with 9 to 14
-file_few : (h : Header) (file : List ℕ) → 1 ≤ h.delta → All (λ q. q.0 ≤ 255) (file_questions h (read_file h.delta file))
-unfolding file_questions
-file_few h file some = go (read_file h.delta file) refl where
-  go : (a : FileAnswer) → read_file h.delta file ≡ a → All (λ q. q.0 ≤ 255) (file_questions h a)
-  go (refused n) e = (omega (arith, refused_number h.delta some file n e), tt)
-  go (read r) e = (omega arith, tt)
-
--- the number of a load: where question 1 is answered yes, a beat has a tick
-load_few : (s : List ℕ) (i : ℕ) (file : List ℕ) → load_number s i file ≤ 255
-unfolding load_number load_questions first_no
-load_few s i file = go (header_ok (header_of s) (length s)) refl where
-  go : (b : Bool) → header_ok (header_of s) (length s) ≡ b → load_number s i file ≤ 255
-  go true e = first_few (load_questions s i file) (omega arith, (omega arith, file_few (header_of s) file (in_range {h = header_of s} e).some-ticks))
-  go false e = rw (e, load_number) (omega arith)
-
-pub number_few : (s : List ℕ) (f : Frame) → number_of s f ≤ 255
-unfolding number_of number questions write_number write_questions load_number load_questions
-number_few s malformed = omega arith
-number_few s (open_frame h) = one_few (opens h)
-number_few s (lay_frame i beats ws) = first_few (questions s (lay_call i beats ws)) (omega arith)
-number_few s (split_frame i k l r) = first_few (questions s (split_call i k l r)) (omega arith)
-number_few s (join_frame i j k) = first_few (questions s (join_call i j k)) (omega arith)
-number_few s (load_frame i file) = load_few s i file
-number_few s (write_frame i) = first_few (write_questions s i 8192) (omega arith)
-
-pub changed_few : {s : List ℕ} {f : Frame} {t : List ℕ} {r : Result (Unit {0}) Refusal} → Changed s f t r → number_in r ≤ 255
-changed_few {s} {f} c = omega (arith, number_few s f, c.number)
-
-pub wrote_few : {s : List ℕ} {f : Frame} {out : List ℕ} {r : Result ℕ Refusal} → Wrote s f out r → number_in r ≤ 255
-wrote_few {s} {f} w = omega (arith, number_few s f, w.number)
-
 -- ---- the frame of a call byte
 
 module _ {c : ℕ} (bytes : List ℕ) where

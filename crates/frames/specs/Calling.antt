@@ -1,20 +1,16 @@
 -- What the functions that carry out a frame leave, for the frame f: the session, the file and the output. Assumes nothing.
-use Rattle.std.specs.Prelude.{◌≡◌, cond, List, [], ℕ, zero, suc, ◌*◌, ◌≤◌, eqb, length, take, Result, Ok, Err}
+use Rattle.std.specs.Prelude.{◌≡◌, cond, List, [], ℕ, ◌*◌, ◌≤◌, eqb, length, take, Result, Ok, Err}
 use Rattle.std.specs.Result.{MatchResult}
+use Rattle.model.specs.Numbers as Numbers
 use Rattle.frames.specs.Lines.{Frame, arguments}
 use Rattle.frames.specs.Answers.{malformed_number, output_bytes, number_of, session_after, file_after}
 use Rattle.frames.specs.declared.calls.Refusal.{Refusal}
-use Rattle.frames.specs.declared.calls.Refusal.TheVariants.{Malformed, Question}
-
--- What a call's number says: 0 for yes, another for the question that is answered no.
-abbrev pub asked_of : ℕ → Result (Unit {0}) Refusal
-asked_of zero = Ok tt
-asked_of (suc n) = Err (Question (suc n))
+use Rattle.frames.specs.declared.calls.Refusal.TheVariants.{Malformed, AnsweredNo}
 
 -- The number of a refusal, and of an outcome.
 abbrev pub refusal_number : Refusal → ℕ
 refusal_number Malformed = malformed_number
-refusal_number (Question n) = n
+refusal_number (AnsweredNo question) = Numbers.number_of question
 
 abbrev pub number_in : {T : Type 0} → Result T Refusal → ℕ
 number_in (Ok v) = 0

@@ -19,20 +19,17 @@ pub type Output = Buffer<OUT_BYTES>;
 
 // The number of an outcome.
 fn number(outcome: Result<(), Refusal>) -> u8
-    requires { number_in outcome ≤ 255 }
     ensures { result ≡ number_in outcome }
 {
     match outcome {
         Ok(()) => 0,
-        Err(Refusal::Malformed) => 255,
-        Err(Refusal::Question(n)) => n as u8,
+        Err(refusal) => u8::from(refusal),
     }
 }
 
 // Writes an answer without a file: its number and a line feed.
 fn put_number(out: &mut Output, outcome: Result<(), Refusal>)
-    requires room { length out.old + 3 ≤ out_bytes }
-    requires few { number_in outcome ≤ 255 }
+    requires { length out.old + 3 ≤ out_bytes }
     ensures { out.new ≡ out.old ++ (byte_digits (number_in outcome) ++ 10 ∷ []) }
 {
     digits::put_byte(out, number(outcome));

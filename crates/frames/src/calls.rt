@@ -1,11 +1,12 @@
 // The calls of frames: each takes the bytes behind the call byte.
 ghost use Rattle.std.specs.Prelude.{◌≡◌, ◌+◌, ◌*◌, ◌≤◌, length};
 ghost use Rattle.frames.specs.Lines.{arguments, change_of, lay_of, split_of, join_of, write_of, load_of};
-ghost use Rattle.frames.specs.Calling.{asked_of, words_in, Changed, Wrote};
+ghost use Rattle.frames.specs.Calling.{refusal_number, words_in, Changed, Wrote};
+ghost use Rattle.frames.specs.declared.calls.Refusal.TheVariants.{AnsweredNo};
 
 use beat::{joining, laying, splitting};
 use file::{loading, writing};
-use model::questions::answer_number;
+use model::questions::Question;
 use track::bytes::word32;
 
 // Why a frame is refused.
@@ -13,8 +14,28 @@ use track::bytes::word32;
 pub enum Refusal {
     // Its line is malformed.
     Malformed,
-    // A question of its call is answered no: the one of this number.
-    Question(u32),
+    // A question of its call is answered no.
+    AnsweredNo(Question),
+}
+
+impl From<Question> for Refusal {
+    ghost from_gives = { λ question refusal. refusal ≡ AnsweredNo question };
+
+    fn from(question: Question) -> Refusal {
+        Refusal::AnsweredNo(question)
+    }
+}
+
+impl From<Refusal> for u8 {
+    ghost from_gives = { λ refusal n. n ≡ refusal_number refusal };
+
+    // The number that is written for it: 255, or that of the question.
+    fn from(refusal: Refusal) -> u8 {
+        match refusal {
+            Refusal::Malformed => 255,
+            Refusal::AnsweredNo(question) => u32::from(question) as u8,
+        }
+    }
 }
 
 // The most words of a lay's notes.
@@ -22,16 +43,6 @@ const MAX_NOTE_WORDS: usize = 500;
 
 // The bytes of the largest file that is written.
 pub const OUTPUT_BYTES: usize = 8192;
-
-// What a call's number says.
-pub(crate) fn asked(number: u32) -> Result<(), Refusal>
-    ensures { result ≡ asked_of number }
-{
-    match number {
-        0 => Ok(()),
-        _ => Err(Refusal::Question(number)),
-    }
-}
 
 // Reads words, those behind the first `first` words of the bytes.
 fn read_words(bytes: &[u8], first: usize, words: &mut [u32])
@@ -66,7 +77,8 @@ pub fn lay(session: &mut [u32], bytes: &[u8]) -> Result<(), Refusal>
     let mut words = [0; MAX_NOTE_WORDS];
     let notes = &mut words[..(bytes.len() - 8) / 4];
     read_words(bytes, 2, notes);
-    asked(answer_number(laying::take_lay(session, word32(bytes, 0), word32(bytes, 4), notes)))
+    laying::take_lay(session, word32(bytes, 0), word32(bytes, 4), notes)?;
+    Ok(())
 }
 
 // Split: shelf, k, left, right.
@@ -74,7 +86,8 @@ pub fn split(session: &mut [u32], bytes: &[u8]) -> Result<(), Refusal>
     ensures { Changed session.old (split_of bytes.now) session.new result }
 {
     let [take, beat, left, right] = words_of::<4>(bytes)?;
-    asked(answer_number(splitting::take_split(session, take, beat, left, right)))
+    splitting::take_split(session, take, beat, left, right)?;
+    Ok(())
 }
 
 // Join: first, second, result.
@@ -82,7 +95,8 @@ pub fn join(session: &mut [u32], bytes: &[u8]) -> Result<(), Refusal>
     ensures { Changed session.old (join_of bytes.now) session.new result }
 {
     let [first, second, joined] = words_of::<3>(bytes)?;
-    asked(answer_number(joining::take_join(session, first, second, joined)))
+    joining::take_join(session, first, second, joined)?;
+    Ok(())
 }
 
 // Load: shelf, then the bytes of a file.
@@ -92,10 +106,12 @@ pub fn load(session: &mut [u32], bytes: &[u8]) -> Result<(), Refusal>
     if bytes.len() < 4 {
         return Err(Refusal::Malformed);
     }
-    asked(loading::take_load(session, word32(bytes, 0), &bytes[4..]))
+    loading::take_load(session, word32(bytes, 0), &bytes[4..])?;
+    Ok(())
 }
 
-// The calls that change an open session, by their call byte; another byte is malformed.
+// The calls that change an open session, by their call byte; another byte is malformed. The byte is matched here and in `answers`, each
+// call once: an enum of calls would need a conversion that matches it before.
 pub(crate) fn change(session: &mut [u32], call: u8, bytes: &[u8]) -> Result<(), Refusal>
     requires { length bytes.now ≤ 2000 }
     ensures { Changed session.old (change_of call bytes.now) session.new result }
@@ -119,6 +135,6 @@ pub fn write(
 {
     let [shelf] = words_of::<1>(bytes)?;
     let mut count = 0;
-    asked(answer_number(writing::take_write(session, shelf, output, &mut count)))?;
+    writing::take_write(session, shelf, output, &mut count)?;
     Ok(count as usize)
 }

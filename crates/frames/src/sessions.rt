@@ -6,7 +6,7 @@ ghost use Rattle.frames.specs.Calling.{Changed};
 use crate::calls;
 use crate::calls::Refusal;
 use beat::opening;
-use model::questions::answer_number;
+use model::questions::Question;
 use std::marker::Model;
 
 // The words of the largest session.
@@ -54,17 +54,11 @@ impl Session {
         let [delta, epsilon, shelves, shelf_words] = calls::words_of::<4>(bytes)?;
         let asked = 4 + (shelves as u64) * (shelf_words as u64);
         if asked > MAX_SESSION as u64 {
-            return Err(Refusal::Question(1));
+            return Err(Refusal::AnsweredNo(Question::HeaderInRange));
         }
         let size = asked as usize;
         let words = &mut self.words[..size];
-        calls::asked(answer_number(opening::take_open(
-            words,
-            delta,
-            epsilon,
-            shelves,
-            shelf_words,
-        )))?;
+        opening::take_open(words, delta, epsilon, shelves, shelf_words)?;
         self.count = size;
         Ok(())
     }

@@ -1,13 +1,7 @@
 -- `frames::answers::answer_call` meets its contract.
 use Rattle.std.proofs.Common.{arith, sym}
-use Rattle.frames.proofs.Dispatch.{changed_few, answered, write_leaves, call_open, call_write, call_change}
+use Rattle.frames.proofs.Dispatch.{answered, write_leaves, call_open, call_write, call_change}
 use Rattle.frames.proofs.answers.answer_call.Goals as goal
-
-pub put_number-requires-clause-few : goal.put_number-requires-clause-few
-put_number-requires-clause-few c = changed_few c.open.ensures
-
-pub put_number-requires-in_default-clause-few : goal.put_number-requires-in_default-clause-few
-put_number-requires-in_default-clause-few c = changed_few c.change.ensures
 
 pub returns-in-1 : goal.returns-in-1
 returns-in-1 c = rw (call_open _ c.in-1.is) (answered c.open.ensures _ c.put_number.ensures)

@@ -1,5 +1,6 @@
 -- `frames::calls::lay` meets its contract.
-use Rattle.std.proofs.Common.{◌∙◌, arith}
+use Rattle.std.proofs.Common.{refl, arith}
+use Rattle.std.proofs.lemmas.Result.{err_from_is_err_and}
 use lib.Seq.{length-take-le}
 use Rattle.frames.proofs.Carried.{lay-short, lay_incomplete, lay_done}
 use Rattle.frames.proofs.calls.lay.Goals as goal
@@ -12,5 +13,11 @@ returns-then-bytes-lt8 c =
       | then-bytes-lt8-via-else-bytes-lt8+then-bytes-ne0 w ↦ lay_incomplete _ _ w.if-bytes-ne0.true
     ]
 
+pub returns-in_err-take_lay : goal.returns-in_err-take_lay
+returns-in_err-take_lay c =
+    let p = err_from_is_err_and c.from_residual.result c.from_residual.ensures.1 in
+    rw (p.1, p.2)
+    (lay_done _ _ (omega arith) (omega arith) c.word32.ensures c.word32-2.ensures (length-take-le _ _ (omega arith)) c.read_words.ensures (c.in_err-take_lay.ensures.number, c.in_err-take_lay.ensures.words) refl)
+
 pub returns : goal.returns
-returns c = rw c.asked.ensures (lay_done _ _ (omega arith) (omega arith) c.word32.ensures c.word32-2.ensures (length-take-le _ _ (omega arith)) c.read_words.ensures (c.answer_number.ensures ∙ c.take_lay.ensures.number, c.take_lay.ensures.words))
+returns c = lay_done _ _ (omega arith) (omega arith) c.word32.ensures c.word32-2.ensures (length-take-le _ _ (omega arith)) c.read_words.ensures (c.in_ok-take_lay.ensures.number, c.in_ok-take_lay.ensures.words) refl

@@ -1,7 +1,7 @@
 -- `frames::sessions::Session::open` meets its contract.
-use Rattle.std.proofs.Common.{◌∙◌, arith}
+use Rattle.std.proofs.Common.{refl, arith}
 use Rattle.std.proofs.lemmas.Result.{err_from_is_err_and}
-use Rattle.frames.proofs.Carried.{open_wrong, open_large, open_same, open_kept, open_accepted}
+use Rattle.frames.proofs.Carried.{question_some, open_wrong, open_large, open_same, open_kept, open_accepted}
 use Rattle.frames.proofs.sessions.Session.open.Goals as goal
 
 pub returns-in_err-delta : goal.returns-in_err-delta
@@ -12,11 +12,19 @@ returns-in_err-delta c =
 pub returns-then-asked : goal.returns-then-asked
 returns-then-asked c = open_large _ _ c.in_ok-delta.ensures (omega arith)
 
-pub returns-in_err-asked : goal.returns-in_err-asked
-returns-in_err-asked c =
-    let p = err_from_is_err_and c.from_residual-in_err-asked.result c.from_residual-in_err-asked.ensures.1 in
-    rw (p.1, p.2, open_same c.args.self.now _ c.in_ok-delta.ensures (omega arith) c.self.inside.words (omega arith) (c.answer_number.ensures ∙ c.take_open.ensures.number, c.take_open.ensures.words) c.in_err-asked.ensures, c.self.view_is)
-    (open_kept _ _ c.in_ok-delta.ensures (omega arith) c.self.inside.words (omega arith) (c.answer_number.ensures ∙ c.take_open.ensures.number, c.take_open.ensures.words) c.in_err-asked.ensures)
+pub returns-in_err-take_open : goal.returns-in_err-take_open
+returns-in_err-take_open c =
+    let p = err_from_is_err_and c.from_residual-in_err-take_open.result c.from_residual-in_err-take_open.ensures.1 in
+    rw (
+      p.1,
+      p.2,
+      open_same c.args.self.now _ c.in_ok-delta.ensures (omega arith) c.self.inside.words (omega arith)
+      (c.in_err-take_open.ensures.number, c.in_err-take_open.ensures.words) (question_some _),
+      c.self.view_is,
+    )
+    (open_kept _ _ c.in_ok-delta.ensures (omega arith) c.self.inside.words (omega arith) (c.in_err-take_open.ensures.number, c.in_err-take_open.ensures.words)
+    (question_some _) refl)
 
 pub returns : goal.returns
-returns c = open_accepted _ _ c.in_ok-delta.ensures (omega arith) c.self.inside.words (omega arith) (c.answer_number.ensures ∙ c.take_open.ensures.number, c.take_open.ensures.words) c.in_ok-asked.ensures
+returns c =
+    open_accepted _ _ c.in_ok-delta.ensures (omega arith) c.self.inside.words (omega arith) (c.in_ok-take_open.ensures.number, c.in_ok-take_open.ensures.words) refl
