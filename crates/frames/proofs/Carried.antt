@@ -1,5 +1,5 @@
 -- The calls of frames: what each leaves, by the way that it goes. Assumes nothing.
-use Rattle.std.specs.Prelude.{◌≡◌, refl, Bool, true, false, List, [], ◌++◌, ℕ, zero, suc, ◌-◌, ◌*◌, ◌/◌, ◌%◌, ◌≤◌, ◌<◌, leb, length, get_or, take, drop, Ok, Err}
+use Rattle.std.specs.Prelude.{◌≡◌, refl, Bool, true, false, List, [], ◌++◌, ℕ, zero, suc, ◌-◌, ◌*◌, ◌/◌, ◌%◌, ◌≤◌, ◌<◌, leb, length, get_or, take, drop, Result, Ok, Err}
 use Rattle.std.proofs.Common.{sym, ap, ◌∙◌, arith, ne_eqb, length-append, length-drop}
 use Rattle.std.proofs.lemmas.Bool.{le-leb, lt-leb, eq-eqb}
 use Rattle.std.proofs.lemmas.List.{length-replicate}
@@ -19,6 +19,7 @@ use Rattle.laws.specs.Accepted.{yes_all}
 use Rattle.laws.specs.Booleans.{and_no}
 use Rattle.midi.specs.Numbers.{word32}
 use Rattle.file.specs.Calls.{shelf_file, file_fits, write_questions, write_number, write_count, write_output, load_number, load_after}
+use Rattle.model.proofs.Numbers.{number_positive}
 use Rattle.beat.proofs.Opens.{open_refused, open_done}
 use Rattle.frames.specs.Lines.{Frame, malformed, open_frame, lay_frame, split_frame, join_frame, write_frame, load_frame, arguments, open_of, lay_of, split_of, join_of, write_of, load_of}
 use Rattle.frames.specs.Answers.{opens, number_of, session_after, file_after}
@@ -30,21 +31,25 @@ use Rattle.frames.proofs.Words.{words_err, words_ok}
 -- ---- the number of a question
 
 pub question_some : (q : Question) → Numbers.number_of q ≡ 0 → ⊥
-question_some HeaderInRange e = omega arith
-question_some ShelvesBelow e = omega arith
-question_some ShelvesDiffer e = omega arith
-question_some ShelvesSound e = omega arith
-question_some BeatWithin e = omega arith
-question_some BeatsFew e = omega arith
-question_some ListInOrder e = omega arith
-question_some ResultFits e = omega arith
-question_some FileHeader e = omega arith
-question_some FileFormat e = omega arith
-question_some TrackReached e = omega arith
-question_some EventLegal e = omega arith
-question_some TimeWithin e = omega arith
-question_some LaneSilent e = omega arith
-question_some FileFits e = omega arith
+question_some q e = omega (arith, number_positive q)
+
+-- it has two digits
+pub question_few : (q : Question) → Numbers.number_of q ≤ 255
+question_few HeaderInRange = omega arith
+question_few ShelvesBelow = omega arith
+question_few ShelvesDiffer = omega arith
+question_few ShelvesSound = omega arith
+question_few BeatWithin = omega arith
+question_few BeatsFew = omega arith
+question_few ListInOrder = omega arith
+question_few ResultFits = omega arith
+question_few FileHeader = omega arith
+question_few FileFormat = omega arith
+question_few TrackReached = omega arith
+question_few EventLegal = omega arith
+question_few TimeWithin = omega arith
+question_few LaneSilent = omega arith
+question_few FileFits = omega arith
 
 -- ---- lay, split, join and load
 

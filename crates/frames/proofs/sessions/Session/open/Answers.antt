@@ -19,7 +19,7 @@ returns-in_err-take_open c =
       p.1,
       p.2,
       open_same c.args.self.now _ c.in_ok-delta.ensures (omega arith) c.self.inside.words (omega arith)
-      (c.in_err-take_open.ensures.number, c.in_err-take_open.ensures.words) (question_some _),
+          (c.in_err-take_open.ensures.number, c.in_err-take_open.ensures.words) (question_some _),
       c.self.view_is,
     )
     (open_kept _ _ c.in_ok-delta.ensures (omega arith) c.self.inside.words (omega arith) (c.in_err-take_open.ensures.number, c.in_err-take_open.ensures.words)
