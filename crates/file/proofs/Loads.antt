@@ -29,38 +29,38 @@ use Rattle.std.specs.Prelude.{Err}
 use Rattle.model.specs.Numbers.{number_of, answer_of}
 use Rattle.model.proofs.Numbers.{kept}
 use Rattle.model.specs.declared.questions.Question.{Question}
+use Rattle.model.specs.declared.questions.Question.TheVariants.{ResultFits}
 use Rattle.session.specs.Entering.{entry_asked}
 use Rattle.reader.specs.Chunks.{TrackPlace, refusal, bytes, chunk_place, track_place, read_place}
 use Rattle.reader.specs.Counting.{recording, summary, Times, CountsOf}
 use Rattle.reader.specs.Counting as counts
 use Rattle.reader.proofs.ChunkLoops.{read_place_lem}
 use Rattle.file.specs.Calls.{file_questions, load_questions, load_number, loaded, load_after}
-use Rattle.file.specs.Loading.{answer_number, answer_after, ShelfAsks, RecordingAsks}
+use Rattle.file.specs.Loading.{read_number, read_after, ShelfAsks, RecordingAsks}
 use Rattle.file.proofs.Answers.{ReadAs, refused_is, recording_is}
 
 -- ---- the number of an answer, and the words
 
 abbrev pub Answered : Header → List ℕ → ℕ → FileAnswer → ℕ → List ℕ → Type 0
-Answered h s i a number after = (number ≡ answer_number h a) × (after ≡ answer_after h s i a)
+Answered h s i a number after = (number ≡ read_number h a) × (after ≡ read_after h s i a)
 
 module _ (h : Header) (s : List ℕ) (i : ℕ) (a : FileAnswer) where
-  answered_refused : (q : ℕ) → answer_number h a ≡ q → 0 < q → Answered h s i a q s
-  unfolding answer_after
-  answered_refused zero e more = absurd (omega arith)
-  answered_refused (suc q) e more = (sym e, rw (answer_after, e))
+  answered_refused : (q : Question) → number_of q ≡ read_number h a → Answered h s i a (number_of q) s
+  unfolding read_after
+  answered_refused q e = (e, kept q (read_number h a) e (loaded h s i a) s)
 
-  answered-done : answer_number h a ≡ 0 → {after : List ℕ} → after ≡ loaded h s i a → Answered h s i a 0 after
-  unfolding answer_after
-  answered-done e f = (sym e, rw (answer_after, e) f)
+  answered-done : read_number h a ≡ 0 → {after : List ℕ} → after ≡ loaded h s i a → Answered h s i a 0 after
+  unfolding read_after
+  answered-done e f = (sym e, rw (read_after, e) f)
 
-number_refused : (h : Header) (q : ℕ) → answer_number h (refused q) ≡ q
-unfolding answer_number first_no file_questions
+number_refused : (h : Header) (q : ℕ) → read_number h (refused q) ≡ q
+unfolding read_number first_no file_questions
 number_refused h q = refl
 
 -- 8 by the numbers of notes and cells
 read_is : (h : Header) (r : Recording) → 0 < h.delta → Valid h.delta r
-    → answer_number h (read r) ≡ cond (leb (words_used (length r.notes) (length (gather (cells_of_note h.delta) r.notes))) h.words) 0 8
-unfolding answer_number first_no file_questions fits recording_take
+    → read_number h (read r) ≡ cond (leb (words_used (length r.notes) (length (gather (cells_of_note h.delta) r.notes))) h.words) 0 8
+unfolding read_number first_no file_questions fits recording_take
 read_is h r z v =
     asked-first 8 (fits h (recording_take h.delta r)) []
     ∙ ap (λ (n : ℕ). cond (leb (words_used n (length (gather (cells_of_note h.delta) r.notes))) h.words) 0 8) (ap length (notes_again h z r v.1))
@@ -85,27 +85,25 @@ module _ {s : List ℕ} {h : Header} {i : ℕ} (a : ShelfAsks s h i) where
     sound = track-sound h.delta range.some-ticks t
 
     -- refused by question 12, 13 or 14
-    pub track_refused : (q : ℕ) → counts.refusal q ≡ summary h.delta answer → Answered h s i answer q s
+    pub track_refused : (q : Question) → counts.refusal (number_of q) ≡ summary h.delta answer → Answered h s i answer (number_of q) s
     track_refused q e =
-        let f = refused_is h.delta q answer e in
-        let k : (9 ≤ q) × (q ≤ 14) = rw f at sound in
-        answered_refused h s i answer q (ap (answer_number h) f ∙ number_refused h q) (omega arith)
+        answered_refused h s i answer q (sym (ap (read_number h) (refused_is h.delta (number_of q) answer e) ∙ number_refused h (number_of q)))
 
     -- read as a recording of so many beats, notes and cells
     module _ {beats notes cells : ℕ} (e : recording beats notes cells ≡ summary h.delta answer) where
       k : ReadAs h.delta answer beats notes cells
       k = recording_is h.delta beats notes cells answer e
 
-      number_is : answer_number h answer ≡ cond (leb (words_used notes cells) h.words) 0 8
+      number_is : read_number h answer ≡ cond (leb (words_used notes cells) h.words) 0 8
       number_is =
           let v : Valid h.delta k.got = rw k.is at sound in
-          ap (answer_number h) k.is ∙ read_is h k.got range.some-ticks v
+          ap (read_number h) k.is ∙ read_is h k.got range.some-ticks v
           ∙ ap (λ (n : ℕ). cond (leb (words_used n (length (gather (cells_of_note h.delta) k.got.notes))) h.words) 0 8) (sym k.notes_are)
           ∙ ap (λ (n : ℕ). cond (leb (words_used notes n) h.words) 0 8) (sym k.cells_are)
 
       module _ {o : Bool} (f : o ≡ leb (words_used notes cells) h.words) where
         pub track_full : not o ≡ true → Answered h s i answer 8 s
-        track_full t = answered_refused h s i answer 8 (number_is ∙ rw (sym f ∙ not-true o t)) (omega arith)
+        track_full t = answered_refused h s i answer ResultFits (sym (number_is ∙ rw (sym f ∙ not-true o t)))
 
         pub track-room : not o ≡ false → words_used notes cells ≤ h.words
         track-room t = leb-true (words_used notes cells) h.words (sym f ∙ not-false o t)
@@ -160,8 +158,8 @@ module _ (s : List ℕ) (i : ℕ) (file : List ℕ) where
   abbrev g : Header
   g = header_of s
 
-  load_is : load_number s i file ≡ cond (header_ok g (length s)) (cond (ltb i g.shelves) (answer_number g (read_file g.delta file)) 2) 1
-  unfolding load_number load_questions answer_number
+  load_is : load_number s i file ≡ cond (header_ok g (length s)) (cond (ltb i g.shelves) (read_number g (read_file g.delta file)) 2) 1
+  unfolding load_number load_questions read_number
   load_is = rw (asked-first, asked-first)
 
   -- refused by question 1 or 2
@@ -176,27 +174,27 @@ module _ (s : List ℕ) (i : ℕ) (file : List ℕ) where
     pub shelf_entered : ShelfAsks s h i
     shelf_entered = record { header = rw e.same e.header; below = rw e.same e.below }
 
-    entered_number : load_number s i file ≡ answer_number h (read_file h.delta file)
-    entered_number = load_is ∙ rw (e.header, lt-ltb i g.shelves e.below) (ap (λ (k : Header). answer_number k (read_file k.delta file)) (sym e.same))
+    entered_number : load_number s i file ≡ read_number h (read_file h.delta file)
+    entered_number = load_is ∙ rw (e.header, lt-ltb i g.shelves e.below) (ap (λ (k : Header). read_number k (read_file k.delta file)) (sym e.same))
 
-    entered_after : load_after s i file ≡ answer_after h s i (read_file h.delta file)
-    unfolding load_after answer_after
+    entered_after : load_after s i file ≡ read_after h s i (read_file h.delta file)
+    unfolding load_after read_after
     entered_after =
         rw (load_after, entered_number)
-        (ap (λ (k : Header). elim (answer_number h (read_file h.delta file)) [ zero ↦ loaded k s i (read_file k.delta file) | suc n ↦ s ]) (sym e.same))
+        (ap (λ (k : Header). elim (read_number h (read_file h.delta file)) [ zero ↦ loaded k s i (read_file k.delta file) | suc n ↦ s ]) (sym e.same))
 
     answered : (a : FileAnswer) → read_file h.delta file ≡ a → {number : ℕ} {after : List ℕ} → Answered h s i a number after → Loaded s i file number after
     answered a f w = (
-      w.0 ∙ ap (answer_number h) (sym f) ∙ sym entered_number,
-      w.1 ∙ ap (answer_after h s i) (sym f) ∙ sym entered_after,
+      w.0 ∙ ap (read_number h) (sym f) ∙ sym entered_number,
+      w.1 ∙ ap (read_after h s i) (sym f) ∙ sym entered_after,
     )
 
     -- refused by question 9, 10 or 11
-    pub load_misplaced : (q : ℕ) → refusal q ≡ track_place h.delta file → Loaded s i file q s
+    pub load_misplaced : (q : Question) → refusal (number_of q) ≡ track_place h.delta file → Loaded s i file (number_of q) s
     load_misplaced q f =
-        let is : read_file h.delta file ≡ refused q = read_place_lem h.delta file ∙ ap (read_place h.delta file) (sym f) in
-        let k = refused_number h.delta (range shelf_entered).some-ticks file q is in
-        answered (refused q) is (answered_refused h s i (refused q) q (number_refused h q) (omega arith))
+        let n = number_of q in
+        let is : read_file h.delta file ≡ refused n = read_place_lem h.delta file ∙ ap (read_place h.delta file) (sym f) in
+        answered (refused n) is (answered_refused h s i (refused n) q (sym (number_refused h n)))
 
     -- the track decides
     pub load_by_track : {at end : ℕ} → bytes at end ≡ track_place h.delta file → {number : ℕ} {after : List ℕ}

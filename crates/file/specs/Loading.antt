@@ -11,14 +11,14 @@ use Rattle.reader.specs.Counting.{LanesCounted}
 use Rattle.file.specs.Calls.{file_questions, loaded}
 
 -- The number of the first question, 9 to 14 and then 8, whose answer is no, or 0.
-unfoldable pub answer_number : Header → FileAnswer → ℕ
+unfoldable pub read_number : Header → FileAnswer → ℕ
 unfolding first_no file_questions
-answer_number h a = first_no (file_questions h a)
+read_number h a = first_no (file_questions h a)
 
 -- The session's words after it: a number above 0 changes nothing.
-unfoldable pub answer_after : Header → List ℕ → ℕ → FileAnswer → List ℕ
-unfolding answer_number loaded
-answer_after h s i a = elim (answer_number h a) [ zero ↦ loaded h s i a | suc n ↦ s ]
+unfoldable pub read_after : Header → List ℕ → ℕ → FileAnswer → List ℕ
+unfolding read_number loaded
+read_after h s i a = elim (read_number h a) [ zero ↦ loaded h s i a | suc n ↦ s ]
 
 -- Questions 1 and 2 answered yes.
 pub record ShelfAsks (s : List ℕ) (h : Header) (shelf : ℕ) : Type 0 where

@@ -1,13 +1,13 @@
 // Load: a file's notes are laid.
 ghost use Rattle.std.specs.Prelude.{◌≡◌};
+ghost use Rattle.model.specs.Numbers.{answer_number};
 ghost use Rattle.midi.specs.Reading.{read_track};
 ghost use Rattle.file.specs.Calls.{loaded, load_number, load_after};
-ghost use Rattle.file.specs.Loading.{answer_number, answer_after, ShelfAsks, RecordingAsks};
+ghost use Rattle.file.specs.Loading.{read_number, read_after, ShelfAsks, RecordingAsks};
 
 use beat::cells;
 use model::Header;
-use reader::chunks::Found;
-use reader::counting::Counted;
+use model::questions::Question;
 use reader::{chunks, counting, placing};
 use session::{header, room, shelf};
 
@@ -33,51 +33,28 @@ fn put_recording(
 }
 
 // Questions 12 to 14 and 8 of a track; if all are answered yes, its recording is laid.
-fn load_track(s: &mut [u32], h: Header, shelf: u32, track: &[u8]) -> u32
+fn load_track(s: &mut [u32], h: Header, shelf: u32, track: &[u8]) -> Result<(), Question>
     requires { ShelfAsks s.old h shelf }
-    ensures number { result ≡ answer_number h (read_track h.delta track.now) }
-    ensures words { s.new ≡ answer_after h s.old shelf (read_track h.delta track.now) }
+    ensures number { answer_number result ≡ read_number h (read_track h.delta track.now) }
+    ensures words { s.new ≡ read_after h s.old shelf (read_track h.delta track.now) }
 {
     let mut counts = [0u32; 2048];
-    match counting::count_track(track, h.delta, &mut counts) {
-        Counted::Recording {
-            beats,
-            notes,
-            cells,
-        } => {
-            if !room::fits(h.words, notes, cells) {
-                return 8;
-            }
-            put_recording(
-                s,
-                h,
-                shelf,
-                track,
-                &mut counts,
-                beats,
-                notes as u32,
-                cells as u32,
-            );
-            0
-        }
-        Counted::Refused(q) => q,
+    let counted = counting::count_track(track, h.delta, &mut counts)?;
+    if !room::fits(h.words, counted.notes, counted.cells) {
+        return Err(Question::ResultFits);
     }
+    let notes = counted.notes as u32;
+    let cells = counted.cells as u32;
+    put_recording(s, h, shelf, track, &mut counts, counted.beats, notes, cells);
+    Ok(())
 }
 
-// Loads a file in a shelf: its notes are laid. Returns the number of the first question answered no, or 0.
-pub fn take_load(session: &mut [u32], shelf: u32, file: &[u8]) -> u32
-    ensures number { result ≡ load_number session.old shelf file.now }
+// Loads a file in a shelf: its notes are laid. Refuses with the first question that is answered no.
+pub fn take_load(session: &mut [u32], shelf: u32, file: &[u8]) -> Result<(), Question>
+    ensures number { answer_number result ≡ load_number session.old shelf file.now }
     ensures words { session.new ≡ load_after session.old shelf file.now }
 {
-    let entry = header::enter(session, shelf);
-    match entry {
-        Ok(h) => {
-            let found = chunks::track_in(h.delta, file);
-            match found {
-                Found::Track { at, end } => load_track(session, h, shelf, &file[at..end]),
-                Found::Refused(q) => q,
-            }
-        }
-        Err(q) => u32::from(q),
-    }
+    let header = header::enter(session, shelf)?;
+    let track = chunks::track_in(header.delta, file)?;
+    load_track(session, header, shelf, &file[track.at..track.end])
 }

@@ -1,18 +1,19 @@
 -- Questions 9 to 11 of a file: where its track is. Assumes nothing.
-use Rattle.std.specs.Prelude.{ℕ, ◌+◌, ◌-◌, true, false, List, length, take, drop}
+use Rattle.std.specs.Prelude.{ℕ, ◌+◌, ◌-◌, true, false, List, length, take, drop, Result, Ok, Err}
+use Rattle.model.specs.Numbers.{number_of}
+use Rattle.model.specs.declared.questions.Question.{Question}
 use Rattle.midi.specs.Numbers.{word32}
 use Rattle.midi.specs.Reading.{FileAnswer, refused, read_track, header_there, header_fits, Chunk, no_track, track, track_from}
 use Rattle.reader.specs.declared.chunks.Found.{Found}
-use Rattle.reader.specs.declared.chunks.Found.TheVariants.{Refused, Track}
 
 -- The number of a question, or the position of the track's first byte and that behind its last.
 pub data TrackPlace : Type 0 where
   refusal : ℕ → TrackPlace
   bytes : ℕ → ℕ → TrackPlace
 
-abbrev pub place_of : Found → TrackPlace
-place_of (Refused n) = refusal n
-place_of (Track at end) = bytes at end
+abbrev pub place_of : Result Found Question → TrackPlace
+place_of (Err q) = refusal (number_of q)
+place_of (Ok f) = bytes f.at f.end
 
 -- 11 if no complete MTrk is reached.
 abbrev pub chunk_place : Chunk → TrackPlace

@@ -5,15 +5,14 @@ ghost use Rattle.midi.specs.Reading.{header_there, header_fits};
 ghost use Rattle.midi.proofs.Loops.{track_after};
 ghost use Rattle.reader.specs.Chunks.{place_of, chunk_place, track_place};
 
+use model::questions::Question;
 use track::bytes;
 
-// Where the track is.
-#[derive(Drop)]
-pub enum Found {
-    // The number of a question.
-    Refused(u32),
-    // The position of its first byte, and the position behind its last.
-    Track { at: usize, end: usize },
+// Where the track is: the position of its first byte, and the position behind its last.
+#[derive(Clone, Copy)]
+pub struct Found {
+    pub at: usize,
+    pub end: usize,
 }
 
 // Question 9: is MThd there, its length 6 or more and all inside the file?
@@ -48,40 +47,37 @@ fn header_fits(delta: u32, s: &[u8]) -> bool
 }
 
 // Question 11: the first MTrk from a position on, reached through complete chunks.
-fn track_from(s: &[u8], from: usize) -> Found
+fn track_from(s: &[u8], from: usize) -> Result<Found, Question>
     requires { from ≤ length s.now }
     ensures { place_of result ≡ chunk_place (track_after s.now from) }
 {
     let mut at = from;
-    let number = 'chunks: loop {
+    'chunks: loop {
         if s.len() - at < 8 {
-            break 'chunks 11;
+            return Err(Question::TrackReached);
         }
         let start = at + 8;
         let size = bytes::word32(s, at + 4) as usize;
         if s.len() - start < size {
-            break 'chunks 11;
+            return Err(Question::TrackReached);
         }
+        let end = start + size;
         if bytes::word32(s, at) == bytes::MTRK {
-            return Found::Track {
-                at: start,
-                end: start + size,
-            };
+            return Ok(Found { at: start, end });
         }
-        at = start + size;
-    };
-    Found::Refused(number)
+        at = end;
+    }
 }
 
-// Where the track of a file is, or the number of the first question, 9 to 11, whose answer is no.
-pub fn track_in(delta: u32, s: &[u8]) -> Found
+// Where the track of a file is, or the first question, 9 to 11, whose answer is no.
+pub fn track_in(delta: u32, s: &[u8]) -> Result<Found, Question>
     ensures { place_of result ≡ track_place delta s.now }
 {
     if !header_there(s) {
-        return Found::Refused(9);
+        return Err(Question::FileHeader);
     }
     if !header_fits(delta, s) {
-        return Found::Refused(10);
+        return Err(Question::FileFormat);
     }
     track_from(s, 8 + bytes::word32(s, 4) as usize)
 }

@@ -29,15 +29,25 @@ use Rattle.midi.specs.Events.{
   behind_time,
   event_at,
 }
+use Rattle.laws.specs.Booleans.{and_left, and_right}
 use Rattle.midi.proofs.Branches.{same_test}
 use lib.Bits.{bit_or, or_add_and, and_le_l, and_le_r}
 use Rattle.midi.proofs.Legal.{InRange}
 use Rattle.track.specs.Notes.{Plain, Running}
-use Rattle.track.specs.Reading.{lane_of, message_of, second_at, over_at, end_at}
-use Rattle.track.specs.declared.cursor.Message.TheVariants.{Plays}
+use Rattle.std.specs.Prelude.{Option, Some, None}
+use Rattle.track.specs.Reading.{lane_of, message_of, data_of, second_at, over_at, end_at}
+use Rattle.track.specs.declared.cursor.Play.{Play}
 use Rattle.track.proofs.ReadGroups.{group_last}
 
 -- ---- data bytes
+
+-- A byte was read at a position.
+pub record Byte (s : List ℕ) (q b : ℕ) : Type 0 where
+  pub inside : q < length s
+  pub is : b ≡ get_or s q 0
+
+pub byte_there : {s : List ℕ} {q b : ℕ} → (q < length s) × ((d : ℕ) → b ≡ get_or s q d) → Byte s q b
+byte_there e = record { inside = e.0; is = e.1 0 }
 
 -- No data byte stands at a position; one does.
 pub record NoData (s : List ℕ) (q : ℕ) : Type 0 where
@@ -55,6 +65,40 @@ module _ (s : List ℕ) (q : ℕ) where
 
   pub data_low : q < length s → get_or s q 0 < 128 → Data s q
   data_low h k = record { there = rw (lt-ltb q (length s) h, lt-ltb (get_or s q 0) 128 k) }
+
+  pub data_inside : Data s q → q < length s
+  data_inside d = ltb-true q (length s) (and_left (ltb q (length s)) (ltb (get_or s q 0) 128) d.there)
+
+  -- what the reader of a data byte answers: none, or the byte
+  pub data_none : NoData s q → None ≡ data_of s q
+  unfolding data_of
+  data_none d = rw (d.none, data_of)
+
+  pub none_there : None ≡ data_of s q → NoData s q
+  unfolding data_of
+  none_there e = record { none = go (data_at s q) e }
+    where
+      go : (b : Bool) → ◌≡◌ {A = Option ℕ} None (elim b [ true ↦ Some (get_or s q 0) | false ↦ None ]) → b ≡ false
+      go true e = absurd cc
+      go false e = refl
+
+  pub some_there : {b : ℕ} → Some b ≡ data_of s q → Data s q × (b ≡ get_or s q 0) × (b < 128)
+  unfolding data_of
+  some_there {b} e = go (data_at s q) refl e
+    where
+      go : (x : Bool) → data_at s q ≡ x → ◌≡◌ {A = Option ℕ} (Some b) (elim x [ true ↦ Some (get_or s q 0) | false ↦ None ])
+          → Data s q × (b ≡ get_or s q 0) × (b < 128)
+      go true d e = let f : b ≡ get_or s q 0 = cc in (record { there = d }, f, rw f (ltb-true (get_or s q 0) 128 (and_right (ltb q (length s)) (ltb (get_or s q 0) 128) d)))
+      go false d e = absurd cc
+
+-- the byte that was read is a data byte, or none
+module _ {s : List ℕ} {q b : ℕ} (y : Byte s q b) where
+  pub byte_low : b < 128 → Some b ≡ data_of s q
+  unfolding data_of
+  byte_low h = let d = data_low s q y.inside (omega (arith, y.is)) in rw (y.is, d.there, data_of)
+
+  pub byte_high : 128 ≤ b → None ≡ data_of s q
+  byte_high h = data_none s q (data_high s q y.inside (omega (arith, y.is)))
 
 -- ---- a channel event
 
@@ -280,7 +324,7 @@ module _ (status key velocity v : ℕ) (note : status / 32 ≡ 4) (low : key < 1
   lane : lane_of (status % 16) key ≡ status % 16 * 128 + key
   lane = rw (lt-ltb key 128 low) (omega arith)
 
-  pub note_plays : message_of (Plays (status % 16) key v) ≡ channel_message status key velocity
+  pub note_plays : message_of (Some (record { channel = status % 16; key = key; velocity = v })) ≡ channel_message status key velocity
   note_plays = rw lane (go (ltb status 144) refl)
     where
       by_velocity : 144 ≤ status → (b : Bool) → eqb velocity 0 ≡ b
@@ -302,24 +346,24 @@ pub note_not : (status key velocity : ℕ) → (status / 32 ≡ 4 → ⊥) → p
 note_not status key velocity d = message_passed status key velocity (λ e. d (omega arith)) (λ e. d (omega arith))
 
 -- what a message that plays says, and that its channel and key are in range where its lane is
-module _ (channel key velocity : ℕ) where
-  pub plays_low : InRange (message_of (Plays channel key velocity)) → (channel < 16) × (key < 128)
-  plays_low h = by_key (ltb key 128) refl (by_velocity (eqb velocity 0) h)
+module _ (p : Play) where
+  pub plays_low : InRange (message_of (Some p)) → (p.channel < 16) × (p.key < 128)
+  plays_low h = by_key (ltb p.key 128) refl (by_velocity (eqb p.velocity 0) h)
     where
-      by_velocity : (b : Bool) → InRange (cond b (ends (lane_of channel key)) (starts (lane_of channel key) velocity)) → lane_of channel key < 2048
+      by_velocity : (b : Bool) → InRange (cond b (ends (lane_of p.channel p.key)) (starts (lane_of p.channel p.key) p.velocity)) → lane_of p.channel p.key < 2048
       by_velocity true h = h
       by_velocity false h = h.0
 
-      by_key : (b : Bool) → ltb key 128 ≡ b → cond b (128 * channel + key) 2048 < 2048 → (channel < 16) × (key < 128)
-      by_key true e h = (omega arith, ltb-true key 128 e)
+      by_key : (b : Bool) → ltb p.key 128 ≡ b → cond b (128 * p.channel + p.key) 2048 < 2048 → (p.channel < 16) × (p.key < 128)
+      by_key true e h = (omega arith, ltb-true p.key 128 e)
       by_key false e h = absurd (omega arith)
 
-  module _ (low : key < 128) where
-    pub plays_end : velocity ≡ 0 → message_of (Plays channel key velocity) ≡ ends (128 * channel + key)
-    plays_end z = rw (eq-eqb velocity 0 z, lt-ltb key 128 low)
+  module _ (low : p.key < 128) where
+    pub plays_end : p.velocity ≡ 0 → message_of (Some p) ≡ ends (128 * p.channel + p.key)
+    plays_end z = rw (eq-eqb p.velocity 0 z, lt-ltb p.key 128 low)
 
-    pub plays_start : (velocity ≡ 0 → ⊥) → message_of (Plays channel key velocity) ≡ starts (128 * channel + key) velocity
-    plays_start d = rw (ne_eqb velocity 0 d, lt-ltb key 128 low)
+    pub plays_start : (p.velocity ≡ 0 → ⊥) → message_of (Some p) ≡ starts (128 * p.channel + p.key) p.velocity
+    plays_start d = rw (ne_eqb p.velocity 0 d, lt-ltb p.key 128 low)
 
 -- the bits of three numbers together are at least each
 pub or_most : (a b c n : ℕ) → bit_or (bit_or a b) c < n → (a < n) × (b < n) × (c < n)

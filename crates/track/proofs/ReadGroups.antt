@@ -66,6 +66,39 @@ unfolding quantity_from
 group_none zero s q sum h = refl
 group_none (suc n) s q sum h = absurd (omega arith)
 
+-- ---- the groups read so far
+
+-- So many groups are read: the others are read from a position on, after the sum of these.
+pub record Reading (s : List ℕ) (at groups q sum : ℕ) : Type 0 where
+  pub low : sum < top (4 - groups)
+  pub same : quantity_at s at ≡ quantity_from (4 - groups) s q sum
+
+pub reading_start : (s : List ℕ) (at : ℕ) → Reading s at 0 at 0
+reading_start s at = record { low = top_start; same = refl }
+
+module _ {s : List ℕ} {at groups q sum : ℕ} (w : Reading s at groups q sum) where
+  pub reading_full : 4 ≤ groups → quantity_at s at ≡ no_quantity
+  reading_full h = w.same ∙ group_none (4 - groups) s q sum (omega arith)
+
+  module _ (h : groups < 4) where
+    pub reading_small : sum < 2097152
+    reading_small = top_low (4 - groups) sum (omega arith) (omega arith) w.low
+
+    pub reading_cut : length s ≤ q → quantity_at s at ≡ no_quantity
+    reading_cut k = w.same ∙ group_cut (4 - groups) s q sum (omega arith) k
+
+    module _ {b : ℕ} (inside : q < length s) (is : b ≡ get_or s q 0) where
+      pub reading_last : b < 128 → quantity_at s at ≡ quantity (sum * 128 + b) (q + 1)
+      reading_last k = rw is (w.same ∙ group_last (4 - groups) s q sum (omega arith) inside (omega arith))
+
+      pub reading_more : 128 ≤ b → b < 256 → Reading s at (groups + 1) (q + 1) (sum * 128 + (b - 128))
+      reading_more k l =
+          let e : 4 - groups - 1 ≡ 4 - (groups + 1) = omega arith in
+          record {
+            low = rw e at (top_next (4 - groups) sum (b - 128) (omega arith) (omega arith) w.low (omega arith));
+            same = rw is (rw e at (w.same ∙ group_more (4 - groups) s q sum (omega arith) inside (omega arith)));
+          }
+
 -- ---- the number
 
 -- A number of four groups is below 2 to the 28.

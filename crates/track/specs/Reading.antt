@@ -1,19 +1,17 @@
 -- What the answers of a track's reader are, case by case, and the parts in which it reads an event. Assumes nothing.
-use Rattle.std.specs.Prelude.{ℕ, suc, ◌+◌, ◌*◌, true, false, cond, ◌&&◌, List, leb, ltb, eqb, length, get_or}
+use Rattle.std.specs.Prelude.{ℕ, suc, ◌+◌, ◌*◌, true, false, cond, ◌&&◌, List, leb, ltb, eqb, length, get_or, Option, Some, None}
 use Rattle.midi.specs.Numbers as N
 use Rattle.midi.specs.Events as E
 use Rattle.track.specs.declared.cursor.Cursor.{Cursor}
 use Rattle.track.specs.declared.quantities.Quantity.{Quantity}
-use Rattle.track.specs.declared.quantities.Quantity.TheVariants.{Nothing, Number}
-use Rattle.track.specs.declared.cursor.Message.{Message}
-use Rattle.track.specs.declared.cursor.Message.TheVariants.{Plays, Passed}
+use Rattle.track.specs.declared.cursor.Play.{Play}
 use Rattle.track.specs.declared.cursor.Event.{Event}
-use Rattle.track.specs.declared.cursor.Event.TheVariants.{Illegal, Legal, Finished}
+use Rattle.track.specs.declared.cursor.Event.TheVariants.{Next, Finished}
 
 -- A number read, or none.
-abbrev pub quantity_of : Quantity → N.Quantity
-quantity_of Nothing = N.no_quantity
-quantity_of (Number n q) = N.quantity n q
+abbrev pub quantity_of : Option Quantity → N.Quantity
+quantity_of None = N.no_quantity
+quantity_of (Some q) = N.quantity q.number q.end
 
 -- The place of a cursor.
 abbrev pub place_of : Cursor → E.Place
@@ -23,18 +21,22 @@ place_of c = E.place c.at c.tick c.running
 abbrev pub lane_of : ℕ → ℕ → ℕ
 lane_of channel key = cond (ltb key 128) (128 * channel + key) 2048
 
--- What an event says.
-abbrev pub message_of : Message → E.Message
-message_of (Plays channel key velocity) = cond (eqb velocity 0) (E.ends (lane_of channel key)) (E.starts (lane_of channel key) velocity)
-message_of Passed = E.passed
+-- What an event says: a note starts or ends, or it is read over.
+abbrev pub message_of : Option Play → E.Message
+message_of (Some p) = cond (eqb p.velocity 0) (E.ends (lane_of p.channel p.key)) (E.starts (lane_of p.channel p.key) p.velocity)
+message_of None = E.passed
 
 -- What stands at a place.
-abbrev pub event_of : Event → E.Event
-event_of Illegal = E.illegal
-event_of (Legal c m) = E.event (place_of c) (message_of m)
-event_of (Finished tick) = E.finished tick
+abbrev pub event_of : Option Event → E.Event
+event_of None = E.illegal
+event_of (Some (Next c m)) = E.event (place_of c) (message_of m)
+event_of (Some (Finished tick)) = E.finished tick
 
 -- ---- parts of an event
+
+-- The data byte at a position, if one stands there.
+unfoldable pub data_of : List ℕ → ℕ → Option ℕ
+data_of s q = elim (E.data_at s q) [ true ↦ Some (get_or s q 0) | false ↦ None ]
 
 -- A channel event from its second data byte on.
 unfoldable pub second_at : List ℕ → ℕ → ℕ → ℕ → ℕ → E.Event

@@ -5,8 +5,6 @@ ghost use Rattle.midi.specs.Numbers.{quantity_bytes};
 ghost use Rattle.midi.specs.Writing.{message_bytes, end_of_track};
 ghost use Rattle.track.specs.Keys.{event_of};
 
-use crate::bytes;
-
 // How many groups of seven bits a time takes: the fewest. Most times take one.
 pub fn group_count(x: u32) -> u32
     requires { x < 268435456 }
@@ -31,15 +29,15 @@ pub fn put_quantity(out: &mut [u8], at: usize, x: u32) -> usize
     }
     let third = (128 + x / 128 % 128) as u8;
     if groups == 2 {
-        bytes::put_two(out, at, third, last);
+        words::put(out, at, [third, last]);
         return at + 2;
     }
     let second = (128 + x / 16384 % 128) as u8;
     if groups == 3 {
-        bytes::put_three(out, at, second, third, last);
+        words::put(out, at, [second, third, last]);
         return at + 3;
     }
-    bytes::put_four(out, at, (128 + x / 2097152) as u8, second, third, last);
+    words::put(out, at, [(128 + x / 2097152) as u8, second, third, last]);
     at + 4
 }
 
@@ -49,12 +47,10 @@ pub fn put_message(out: &mut [u8], at: usize, event: u64)
     ensures { out.new ≡ splice out.old at (message_bytes (event_of event)) }
 {
     let status = 128 + event / 262144 % 2 * 16 + event / 16384 % 16;
-    bytes::put_three(
+    words::put(
         out,
         at,
-        status as u8,
-        (event / 128 % 128) as u8,
-        (event % 128) as u8,
+        [status as u8, (event / 128 % 128) as u8, (event % 128) as u8],
     );
 }
 
@@ -74,6 +70,6 @@ pub fn put_end(out: &mut [u8], at: usize, time: u32) -> usize
     ensures { (result ≡ at + length (quantity_bytes time) + 3) × (out.new ≡ splice out.old at (quantity_bytes time ++ end_of_track)) }
 {
     let p = put_quantity(out, at, time);
-    bytes::put_three(out, p, 255, 47, 0);
+    words::put(out, p, [255, 47, 0]);
     p + 3
 }

@@ -3,33 +3,29 @@ ghost use Rattle.std.specs.Prelude.{◌≡◌};
 ghost use Rattle.midi.specs.Numbers.{quantity_at};
 ghost use Rattle.track.specs.Reading.{quantity_of};
 
-// What stands at a position.
-#[derive(Drop)]
-pub enum Quantity {
-    // No such number.
-    Nothing,
-    // A number, and the position behind it.
-    Number(u32, usize),
+// A number that was read, and the position behind it.
+#[derive(Clone, Copy)]
+pub struct Quantity {
+    pub number: u32,
+    pub end: usize,
 }
 
-// The number at a position: a byte of 128 or more has a group and goes on, one below it has the last group.
-pub fn quantity_at(s: &[u8], at: usize) -> Quantity
+// The number at a position, if one stands there: a byte of 128 or more has a group and goes on, one below it has the last group.
+pub fn quantity_at(s: &[u8], at: usize) -> Option<Quantity>
     ensures { quantity_of result ≡ quantity_at s.now at }
 {
     let mut q = at;
     let mut sum: u32 = 0;
-    let mut left: u32 = 4;
-    while 0 < left {
-        if s.len() <= q {
-            return Quantity::Nothing;
-        }
-        let b = s[q];
+    for _group in 0..4u32 {
+        let b = *s.get(q)?;
+        q += 1;
         if b < 128 {
-            return Quantity::Number(sum * 128 + b as u32, q + 1);
+            return Some(Quantity {
+                number: sum * 128 + b as u32,
+                end: q,
+            });
         }
         sum = sum * 128 + (b - 128) as u32;
-        q += 1;
-        left -= 1;
     }
-    Quantity::Nothing
+    None
 }

@@ -65,7 +65,7 @@ pub extern "C" fn take_load(session: &mut [u32], shelf: u32, file: &[u8]) -> u32
     ensures number { result ≡ load_number session.old shelf file.now }
     ensures words { session.new ≡ load_after session.old shelf file.now }
 {
-    loading::take_load(session, shelf, file)
+    answer_number(loading::take_load(session, shelf, file))
 }
 
 // Writes a shelf's file to an output. Returns the number of the first question answered no, or 0; counts the file's bytes, and 0 for a refusal.

@@ -7,4 +7,4 @@ use native.Mathlib.Omega.{arith}
 use Rattle.track.proofs.putting.put_end.Goals as goal
 
 pub returns : goal.returns
-returns c = let q = c.put_quantity-p.ensures in (omega (arith, q), c.put_three.ensures ∙ rw (q.0, q.1) (sym (splice-append _ _ (quantity_bytes _) end_of_track)))
+returns c = let q = c.put_quantity-p.ensures in (omega (arith, q), c.put.ensures ∙ rw (q.0, q.1) (sym (splice-append _ _ (quantity_bytes _) end_of_track)))

@@ -7,4 +7,4 @@ use Rattle.track.proofs.putting.put_message.Goals as goal
 
 pub returns : goal.returns
 unfolding message_bytes
-returns c = c.put_three.ensures ∙ ap (splice _ _) (message_is _)
+returns c = c.put.ensures ∙ ap (splice _ _) (message_is _)

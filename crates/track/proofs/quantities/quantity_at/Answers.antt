@@ -1,36 +1,35 @@
 -- `track::quantities::quantity_at` meets its contract.
-use mathlib.Core.Path.{refl, sym, ◌∙◌}
-use Prim.Native.Nat.{◌<◌}
+use mathlib.Core.Path.{sym, ap, ◌∙◌}
 use native.Mathlib.Omega.{arith}
-use Rattle.track.proofs.ReadGroups.{top_start, top_low, top_next, group_cut, group_last, group_more, group_none}
+use borrow.Author.Tests.{ltb-false}
+use Rattle.track.specs.Reading.{quantity_of}
+use Rattle.track.proofs.Parts.{byte_there}
+use Rattle.track.proofs.ReadGroups.{reading_start, reading_full, reading_small, reading_cut, reading_last, reading_more}
 use Rattle.track.proofs.quantities.quantity_at.Goals as goal
 
-pub loop-left-init : goal.loop-left-init
-loop-left-init c = (omega arith, top_start, refl)
+pub loop-group-init : goal.loop-group-init
+loop-group-init c = reading_start _ _
 
-pub returns-then-s-q : goal.returns-then-s-q
-returns-then-s-q c = let l = c.loop-left in sym (l.invariant.2 ∙ group_cut l.left _ l.q l.sum c.loop-left-test.true c.if-s-q.true)
+pub returns-in_err-b : goal.returns-in_err-b
+returns-in_err-b c = ap quantity_of c.from_residual.ensures ∙ sym (reading_cut c.loop-group.invariant (omega arith) (ltb-false _ _ (sym c.in_err-b.ensures.lookup.0)))
 
 pub overflow_mul-result : goal.overflow_mul-result
-overflow_mul-result c = let l = c.loop-left in let low : l.sum < 2097152 = top_low l.left l.sum c.loop-left-test.true l.invariant.0 l.invariant.1 in omega arith
+overflow_mul-result c = omega (arith, reading_small c.loop-group.invariant (omega arith))
 
 pub overflow_add-result : goal.overflow_add-result
-overflow_add-result c = let l = c.loop-left in let low : l.sum < 2097152 = top_low l.left l.sum c.loop-left-test.true l.invariant.0 l.invariant.1 in omega arith
+overflow_add-result c = omega (arith, reading_small c.loop-group.invariant (omega arith))
 
 pub returns-then-b-lt128 : goal.returns-then-b-lt128
-returns-then-b-lt128 c = let l = c.loop-left in sym (l.invariant.2 ∙ group_last l.left _ l.q l.sum c.loop-left-test.true c.if-s-q.false c.if-b-lt128.true)
+returns-then-b-lt128 c = let y = byte_there c.in_ok-b.ensures.lookup.3 in sym (reading_last c.loop-group.invariant (omega arith) y.inside y.is c.if-b-lt128.true)
 
 pub overflow_mul-sum : goal.overflow_mul-sum
-overflow_mul-sum c = let l = c.loop-left in let low : l.sum < 2097152 = top_low l.left l.sum c.loop-left-test.true l.invariant.0 l.invariant.1 in omega arith
-
-pub overflow_cast-sum : goal.overflow_cast-sum
-overflow_cast-sum c = let l = c.loop-left in omega (arith, c.type_inv.s l.q)
+overflow_mul-sum c = omega (arith, reading_small c.loop-group.invariant (omega arith))
 
 pub overflow_add-sum : goal.overflow_add-sum
-overflow_add-sum c = let l = c.loop-left in let low : l.sum < 2097152 = top_low l.left l.sum c.loop-left-test.true l.invariant.0 l.invariant.1 in omega (arith, c.type_inv.s l.q)
+overflow_add-sum c = let y = byte_there c.in_ok-b.ensures.lookup.3 in omega (arith, reading_small c.loop-group.invariant (omega arith), y.is, c.type_inv.s c.loop-group.q)
 
-pub loop-left-preserved : goal.loop-left-preserved
-loop-left-preserved c = let l = c.loop-left in let t = c.loop-left-test.true in (omega arith, top_next l.left l.sum _ t l.invariant.0 l.invariant.1 (omega (arith, c.type_inv.s l.q)), l.invariant.2 ∙ group_more l.left _ l.q l.sum t c.if-s-q.false c.if-b-lt128.false)
+pub loop-group-preserved : goal.loop-group-preserved
+loop-group-preserved c = let y = byte_there c.in_ok-b.ensures.lookup.3 in reading_more c.loop-group.invariant (omega arith) y.inside y.is c.if-b-lt128.false (omega (arith, y.is, c.type_inv.s c.loop-group.q))
 
 pub returns : goal.returns
-returns c = let l = c.loop-left in sym (l.invariant.2 ∙ group_none l.left _ l.q l.sum c.loop-left-test.false)
+returns c = sym (reading_full c.loop-group.invariant (omega arith))
