@@ -3,19 +3,10 @@ use Rattle.std.specs.Prelude.{◌≡◌, refl, Bool, true, false, cond, List, []
 use Rattle.std.proofs.Common.{sym, ap, ◌∙◌, append_assoc, arith, ne_eqb, length-append}
 use Rattle.std.proofs.lemmas.Bool.{eq-eqb}
 use lib.Seq.{take_all}
-use Rattle.model.specs.Machine.{lay_call, split_call, join_call}
-use Rattle.model.specs.Questions.{header_ok, questions, first_no, number}
-use Rattle.model.specs.Session.{header_of}
-use Rattle.model.specs.declared.Header.{Header}
-use Rattle.laws.specs.Relations.{All}
-use Rattle.model.proofs.Headers.{in_range}
-use Rattle.midi.specs.Reading.{FileAnswer, refused, read, read_file}
-use Rattle.midi.proofs.Recordings.{refused_number}
-use Rattle.file.specs.Calls.{write_questions, write_number, file_questions, load_questions, load_number}
 use Rattle.midi.specs.Numbers.{word32}
 use Rattle.frames.specs.Digits.{byte_digits, digits_of}
-use Rattle.frames.specs.Lines.{Frame, malformed, open_frame, lay_frame, split_frame, join_frame, write_frame, load_frame, with_words, open_of, lay_of, split_of, join_of, write_of, load_of, change_of, call_of, frame_of, decoded, frame_read, frame_in}
-use Rattle.frames.specs.Answers.{opens, number_of, session_after, file_after, answer_of}
+use Rattle.frames.specs.Lines.{Frame, malformed, write_frame, with_words, open_of, lay_of, split_of, join_of, write_of, load_of, change_of, call_of, frame_of, decoded, frame_read, frame_in}
+use Rattle.frames.specs.Answers.{number_of, session_after, file_after, answer_of}
 use Rattle.frames.specs.Calling.{number_in, Changed, Wrote}
 use Rattle.frames.specs.Answering.{Answers}
 use Rattle.frames.specs.declared.calls.Refusal.{Refusal}
