@@ -1,106 +1,101 @@
 -- How reading the digits of a line goes. Assumes nothing.
-use mathlib.Core.Path.{◌≡◌, refl, sym, ap, ap₂, ◌∙◌}
-use mathlib.Core.Bool.{true, false, ◌&&◌}
-use mathlib.Core.List.{List, [], ◌∷◌}
-use Prim.Native.Nat.{ℕ, zero, suc, ◌+◌, ◌*◌, ◌/◌, ◌%◌, ◌≤◌, ◌<◌}
-use native.Mathlib.Omega.{arith}
-use borrow.Author.Tests.{le-leb, lt-leb, eq-eqb, ne_eqb, lt-ltb, le-ltb}
-use lib.Dec.{leb, eqb}
-use lib.ListN.{length, get_or, set, take, drop, drop_of_length-le}
-use lib.Seq.{drop-cons}
-use Rattle.words.specs.Splice.{splice}
-use Rattle.words.specs.Parts.{part-splice-written}
-use Rattle.words.specs.Writes.{Writes, writes_start, writes-word, writes-done}
-use Rattle.model.specs.Lists.{every}
-use Rattle.laws.specs.Booleans.{and_no}
-use Rattle.frames.specs.Digits.{digit_value, is_digit, bytes_of}
-use Rattle.frames.specs.Lines.{digits_ok, decoded}
+use Rattle.std.specs.Prelude.{◌≡◌, refl, List, [], ◌∷◌, ◌++◌, ℕ, ◌+◌, ◌-◌, ◌*◌, ◌≤◌, ◌<◌, length, get_or, take, drop, Option, Some, None}
+use Rattle.std.specs.Option.{option_map}
+use Rattle.std.proofs.Common.{sym, ap, ◌∙◌, append-nil, append_assoc, arith, length-append}
+use Rattle.std.proofs.lemmas.Bool.{le-leb, lt-leb}
+use lib.Seq.{take_all}
+use Rattle.frames.specs.Digits.{digit_value, byte_before, bytes_of}
+use Rattle.frames.specs.Lines.{decoded}
 
--- what is left behind i pairs of digits: the next pair, and the rest
-pub pair_cons : (l : List ℕ) (i : ℕ) → 2 * i + 1 < length l
-    → drop (2 * i) l ≡ get_or l (2 * i) 0 ∷ get_or l (2 * i + 1) 0 ∷ drop (2 * (i + 1)) l
-pair_cons l i h =
-    let e : suc (suc (2 * i)) ≡ 2 * (i + 1) = omega arith in
-    let f : suc (2 * i) ≡ 2 * i + 1 = omega arith in
-    drop-cons l (2 * i) 0 (omega arith)
-    ∙ ap (λ (x : List ℕ). get_or l (2 * i) 0 ∷ x) (drop-cons l (suc (2 * i)) 0 (omega arith) ∙ ap₂ (λ (m n : ℕ). get_or l m 0 ∷ drop n l) f e)
+-- bytes before those of the digits that are left
+abbrev pub before : List ℕ → Option (List ℕ) → Option (List ℕ)
+before bytes left = option_map (λ (more : List ℕ). bytes ++ more) left
 
--- two digits to a byte
-pub length-bytes_of : (n : ℕ) (l : List ℕ) → length l ≡ 2 * n → length (bytes_of l) ≡ n
+-- a line's first digits are read as bytes, and the others are left
+pub record Decodes (line bytes left : List ℕ) : Type 0 where
+  pub few : 2 * length bytes + length left ≤ 4000
+  pub whole : bytes_of line ≡ before bytes (bytes_of left)
+
+before_none : (left : Option (List ℕ)) → left ≡ before [] left
+before_none None = refl
+before_none (Some bytes) = refl
+
+before_more : (bytes : List ℕ) (b : ℕ) (more : List ℕ) → before bytes (Some (b ∷ more)) ≡ before (bytes ++ b ∷ []) (Some more)
+before_more bytes b more = ap Some (sym (append_assoc bytes (b ∷ []) more))
+
+pair_more : (bytes : List ℕ) (high low : ℕ) (left : Option (List ℕ))
+    → before bytes (byte_before (Some high) (Some low) left) ≡ before (bytes ++ (high * 16 + low) ∷ []) left
+unfolding byte_before
+pair_more bytes high low None = refl
+pair_more bytes high low (Some more) = before_more bytes (high * 16 + low) more
+
+-- the bytes of digits of which two or more are left
+pair : (left : List ℕ) → 2 ≤ length left
+    → bytes_of left ≡ byte_before (digit_value (get_or left 0 0)) (digit_value (get_or left 1 0)) (bytes_of (take (length left - 2) (drop 2 left)))
 unfolding bytes_of
-length-bytes_of n [] e = omega arith
-length-bytes_of n (a ∷ []) e = absurd (omega arith)
-length-bytes_of (suc n) (a ∷ b ∷ l) e = ap suc (length-bytes_of n l (omega arith))
-length-bytes_of zero (a ∷ b ∷ l) e = absurd (omega arith)
+pair [] h = absurd (omega arith)
+pair (a ∷ []) h = absurd (omega arith)
+pair (a ∷ b ∷ l) h = ap (λ (x : List ℕ). byte_before (digit_value a) (digit_value b) (bytes_of x)) (sym (take_all (length (a ∷ b ∷ l) - 2) l (omega arith)))
 
--- i bytes of a line are read: they stand at the start of b, which was b₀, and the digits behind them are left
-pub record Reads (line b₀ b : List ℕ) (i : ℕ) : Type 0 where
-  pub within : i ≤ length line / 2
-  pub writes : Writes b₀ b 0 i (bytes_of line) (bytes_of (drop (2 * i) line))
-  pub digits : every is_digit (drop (2 * i) line) ≡ every is_digit line
+high_none : (low : Option ℕ) (left : Option (List ℕ)) → byte_before None low left ≡ None
+unfolding byte_before
+high_none low left = refl
 
-pub reads-start : (line b : List ℕ) → Reads line b b 0
-reads-start line b = record { within = omega arith; writes = writes_start b 0 (bytes_of line); digits = refl }
+low_none : (high : Option ℕ) (left : Option (List ℕ)) → byte_before high None left ≡ None
+unfolding byte_before
+low_none None left = refl
+low_none (Some high) left = refl
 
-module _ {line b₀ b : List ℕ} {i : ℕ} (h : Reads line b₀ b i) (more : i < length line / 2) where
-  pub reads_pair : {a d : ℕ} → a ≡ digit_value (get_or line (2 * i) 0) → d ≡ digit_value (get_or line (2 * i + 1) 0) → a < 16 → d < 16
-      → Reads line b₀ (set b i (a * 16 + d)) (i + 1)
-  unfolding bytes_of
-  reads_pair {a} {d} is-high is-low high low =
-      let e = pair_cons line i (omega arith) in
-      let f : every is_digit (drop (2 * i) line) ≡ every is_digit (drop (2 * (i + 1)) line) =
-      rw (e, ← is-high, ← is-low, lt-ltb a 16 high, lt-ltb d 16 low) in
-      record {
-        within = omega arith;
-        writes = writes-word (rw (e, ← is-high, ← is-low) at h.writes);
-        digits = sym f ∙ h.digits;
-      }
-
-  high_wrong : {a : ℕ} → a ≡ digit_value (get_or line (2 * i) 0) → 16 ≤ a → every is_digit line ≡ false
-  high_wrong {a} is w = sym h.digits ∙ rw (pair_cons line i (omega arith), ← is, le-ltb a 16 w)
-
-  low_wrong : {d : ℕ} → d ≡ digit_value (get_or line (2 * i + 1) 0) → 16 ≤ d → every is_digit line ≡ false
-  low_wrong {d} is w =
-      sym h.digits ∙ rw (pair_cons line i (omega arith), ← is, le-ltb d 16 w) (and_no (is_digit (get_or line (2 * i) 0)) false refl)
+pub decodes_start : (line : List ℕ) → length line ≤ 4000 → Decodes line [] line
+decodes_start line h = record { few = omega arith; whole = before_none (bytes_of line) }
 
 -- ---- the result
 
--- b starts with the bytes of a line
-abbrev pub Decoded : List ℕ → List ℕ → ℕ → Type 0
-Decoded line b r = (r ≡ length (decoded line)) × (take r b ≡ decoded line) × (r ≤ 2000)
-
--- a line without bytes
-none : (line : List ℕ) → digits_ok line ≡ false → Decoded line [] 0
+pub too_long : (line : List ℕ) → 4000 < length line → None ≡ decoded line
 unfolding decoded
-none line e = (rw e, rw e, omega arith)
+too_long line h = rw (lt-leb (length line) 4000 h)
 
-pub too_long : (line : List ℕ) → 4000 < length line → Decoded line [] 0
-unfolding digits_ok
-too_long line h = none line (rw (lt-leb (length line) 4000 h))
+pub decodes_pair : {line bytes left : List ℕ} → Decodes line bytes left → 2 ≤ length left → {high low : ℕ}
+    → Some high ≡ digit_value (get_or left 0 0) → Some low ≡ digit_value (get_or left 1 0)
+    → Decodes line (bytes ++ (high * 16 + low) ∷ []) (take (length left - 2) (drop 2 left))
+decodes_pair {line} {bytes} {left} d two {high} {low} a b =
+    let behind : List ℕ = take (length left - 2) (drop 2 left) in
+    let next : bytes_of left ≡ byte_before (Some high) (Some low) (bytes_of behind) = rw (a, b) (pair left two) in
+    record {
+      few = omega (arith, d.few, length-append bytes ((high * 16 + low) ∷ []), length-behind left);
+      whole = d.whole ∙ ap (before bytes) next ∙ pair_more bytes high low (bytes_of behind);
+    }
+  where
+    length-behind : (l : List ℕ) → 2 ≤ length l → length (take (length l - 2) (drop 2 l)) ≡ length l - 2
+    length-behind [] h = absurd (omega arith)
+    length-behind (x ∷ []) h = absurd (omega arith)
+    length-behind (x ∷ y ∷ l) h = ap length (take_all (length (x ∷ y ∷ l) - 2) l (omega arith)) ∙ omega arith
 
-pub odd : (line : List ℕ) → (length line % 2 ≡ 0 → ⊥) → Decoded line [] 0
-unfolding digits_ok
-odd line h = none line (rw (ne_eqb (length line % 2) 0 h, and_no (leb (length line) 4000) false refl))
+module _ {line bytes left : List ℕ} (d : Decodes line bytes left) (short : length line ≤ 4000) where
+  is : {o : Option (List ℕ)} → bytes_of left ≡ o → before bytes o ≡ decoded line
+  unfolding decoded
+  is e = rw (le-leb (length line) 4000 short) (sym (d.whole ∙ ap (before bytes) e))
 
-module _ {line b₀ b : List ℕ} {i : ℕ} (h : Reads line b₀ b i) (more : i < length line / 2) where
-  other : every is_digit line ≡ false → Decoded line [] 0
-  unfolding digits_ok
-  other e = none line (rw e (and_no (leb (length line) 4000 && eqb (length line % 2) 0) false refl))
+  pub bad_high : 2 ≤ length left → None ≡ digit_value (get_or left 0 0) → None ≡ decoded line
+  bad_high two e = is {o = None} (pair left two ∙ rw (← e) (high_none (digit_value (get_or left 1 0)) (bytes_of (take (length left - 2) (drop 2 left)))))
 
-  pub high_other : {a : ℕ} → a ≡ digit_value (get_or line (2 * i) 0) → 16 ≤ a → Decoded line [] 0
-  high_other is w = other (high_wrong h more is w)
+  pub bad_low : 2 ≤ length left → None ≡ digit_value (get_or left 1 0) → None ≡ decoded line
+  bad_low two e = is {o = None} (pair left two ∙ rw (← e) (low_none (digit_value (get_or left 0 0)) (bytes_of (take (length left - 2) (drop 2 left)))))
 
-  pub low_other : {d : ℕ} → d ≡ digit_value (get_or line (2 * i + 1) 0) → 16 ≤ d → Decoded line [] 0
-  low_other is w = other (low_wrong h more is w)
+none_left : (left : List ℕ) → length left ≡ 0 → bytes_of left ≡ Some []
+unfolding bytes_of
+none_left [] e = refl
+none_left (a ∷ l) e = absurd (omega arith)
 
--- all digits are read
-pub all_read : {line b₀ b : List ℕ} {i : ℕ} → Reads line b₀ b i → 2000 ≤ length b₀ → length line ≤ 4000 → length line % 2 ≡ 0
-    → length line / 2 ≤ i → Decoded line b (length line / 2)
-unfolding decoded digits_ok bytes_of
-all_read {line} {b₀} {b} {i} h large short even end =
-    let none_left : length line ≤ 2 * i = omega arith in
-    let behind : drop (2 * i) line ≡ [] = drop_of_length-le line none_left in
-    let yes : every is_digit line ≡ true = sym h.digits ∙ rw behind in
-    let long : length (bytes_of line) ≡ length line / 2 = length-bytes_of (length line / 2) line (omega arith) in
-    let made : b ≡ splice b₀ 0 (bytes_of line) = writes-done (rw behind at h.writes) in
-    rw (le-leb _ _ short, eq-eqb _ _ even, yes) (sym long, rw (made, ← long) (part-splice-written b₀ 0 (bytes_of line) (omega arith)), omega arith)
+one_left : (left : List ℕ) → length left ≡ 1 → bytes_of left ≡ None
+unfolding bytes_of
+one_left [] e = absurd (omega arith)
+one_left (a ∷ []) e = refl
+one_left (a ∷ b ∷ l) e = absurd (omega arith)
+
+module _ {line bytes left : List ℕ} (d : Decodes line bytes left) (short : length line ≤ 4000) where
+  pub decodes_done : length left ≡ 0 → Some bytes ≡ decoded line
+  decodes_done e = ap Some (sym (append-nil bytes)) ∙ is d short (none_left left e)
+
+  pub decodes_odd : length left ≡ 1 → None ≡ decoded line
+  decodes_odd e = is d short (one_left left e)

@@ -1,150 +1,136 @@
 -- Input byte by byte: what one byte leaves, and bytes one behind the other. Assumes nothing.
-use mathlib.Core.Path.{◌≡◌, refl, sym, ap, ◌∙◌}
-use mathlib.Core.List.{List, [], ◌∷◌, ◌++◌, append-nil, append_assoc}
-use Prim.Native.Nat.{ℕ, suc, ◌+◌, ◌-◌, ◌≤◌, ◌<◌}
-use native.Mathlib.Numerals.{add-one}
-use native.Mathlib.Omega.{arith}
-use borrow.Author.Tests.{ne_eqb, lt-ltb, le-ltb}
-use lib.ListN.{length, get_or, set, take, drop, length-append, length-drop}
-use lib.Seq.{length-take-le, take-suc-set, take-suc, get_or-drop}
-use Rattle.words.specs.Splice.{splice, splice-append}
-use Rattle.words.specs.Parts.{part-splice-written}
+use Rattle.std.specs.Prelude.{◌≡◌, refl, List, [], ◌∷◌, ◌++◌, ℕ, ◌+◌, ◌*◌, ◌≤◌, ◌<◌, length, get_or, take, drop}
+use Rattle.std.proofs.Common.{sym, ap, ◌∙◌, append-nil, append_assoc, add-one, arith, ne_eqb, length-append, drop_of_length-le}
+use Rattle.std.proofs.lemmas.List.{drop-append-le}
+use lib.Seq.{take_all, take-suc, drop-drop}
 use Rattle.frames.specs.Lines.{frame_in}
-use Rattle.frames.specs.Answers.{session_after, answer_of, line_answer, line_after}
+use Rattle.frames.specs.Answers.{answer_of, line_answer, line_after}
 use Rattle.frames.specs.Answering.{Answers}
-use Rattle.frames.specs.Input.{Reading, kept, taken, written, taken_all, written_all}
-use Rattle.frames.specs.Blocks.{reading_of, Holds, Takes, TakesOne, ReadOn}
-use Rattle.frames.specs.declared.answers.Answered.{Answered}
+use Rattle.frames.specs.Input.{Reading, kept, taken, written, taken_all, written_all, written_last}
+use Rattle.frames.specs.Blocks.{reading_of, Takes}
+use Rattle.frames.specs.Loop.{Flushed, ReadWhole, ReadSome, Last}
 use Rattle.frames.specs.declared.input.Progress.{Progress}
-
--- ---- a character is kept
-
-module _ (line : List ℕ) (n c : ℕ) (whole : length line ≡ 4001) where
-  pub keep_more : n < 4001 → take (n + 1) (set line n c) ≡ kept (take n line) c
-  unfolding kept
-  keep_more h =
-      let long = length-take-le n line (omega arith) in
-      rw (add-one n, take-suc-set line n c (omega arith), lt-ltb (length (take n line)) 4001 (omega arith))
-
-  pub keep-none : n ≤ 4001 → 4001 ≤ n → take n line ≡ kept (take n line) c
-  unfolding kept
-  keep-none low h = let long = length-take-le n line (omega arith) in rw (le-ltb (length (take n line)) 4001 (omega arith))
 
 -- ---- one byte
 
-module _ {line words out : List ℕ} {p : Progress} (h : Holds line words p) where
-  pub ended : {words' out' : List ℕ} {r : Answered} → Answers words p.length out p.end (frame_in (take p.kept line)) words' out' r → length words' ≡ length words
-      → TakesOne line words out p 10 line words' out' (record { at = p.at; kept = 0; length = r.length; end = r.end })
+module _ {p : Progress} where
+  pub takes-end : {s out : List ℕ} → Answers p.session p.answers (frame_in p.line) s out → Takes p (10 ∷ []) (record { session = s; line = []; answers = out })
   unfolding taken_all written_all taken written line_answer line_after
-  ended {words'} {out'} {r} a same =
-      let s = take p.length words in
-      let f = frame_in (take p.kept line) in
-      let session : take r.length words' ≡ session_after s f =
-      rw (a.length, a.session) (part-splice-written words 0 (session_after s f) (omega (arith, a.length, a.few, h.whole))) in
+  takes-end a =
       record {
-        takes = record {
-          holds = record { characters = h.characters; whole = same ∙ h.whole; few = omega arith; held = a.few };
-          state = ap (λ (x : List ℕ). record { session = x; line = [] }) session;
-          output = a.put.output ∙ ap (splice out p.end) (sym (append-nil (answer_of s f)));
-          end = a.put.end ∙ ap (λ (x : List ℕ). p.end + length x) (sym (append-nil (answer_of s f)));
-        };
-        small = a.put.few;
+        state = ap (λ (x : List ℕ). record { session = x; line = [] }) a.session;
+        output = a.output ∙ ap (λ (x : List ℕ). p.answers ++ x) (sym (append-nil (answer_of p.session (frame_in p.line))));
       }
 
-  pub kept-one : {c n : ℕ} {line' : List ℕ} → (c ≡ 10 → ⊥) → (n ≤ 4001) × (take n line' ≡ kept (take p.kept line) c) → length line' ≡ length line
-      → TakesOne line words out p c line' words out (record { at = p.at; kept = n; length = p.length; end = p.end })
-  unfolding taken_all written_all taken written splice
-  kept-one {c} {n} {line'} other done same =
-      let e = ne_eqb c 10 other in
-      record {
-        takes = record {
-          holds = record { characters = same ∙ h.characters; whole = h.whole; few = done.0; held = h.held };
-          state = rw e (ap (λ (x : List ℕ). record { session = take p.length words; line = x }) done.1);
-          output = rw e;
-          end = rw e (omega arith);
-        };
-        small = omega arith;
-      }
+  pub takes_kept : {c : ℕ} {line : List ℕ} → (c ≡ 10 → ⊥) → line ≡ kept p.line c
+      → Takes p (c ∷ []) (record { session = p.session; line = line; answers = p.answers })
+  unfolding taken_all written_all taken written
+  takes_kept {c} other e =
+      let no = ne_eqb c 10 other in
+      record { state = rw no (ap (λ (x : List ℕ). record { session = p.session; line = x }) e); output = rw no (sym (append-nil p.answers)) }
+
+-- the last line, if it has a character
+pub last_none : (r : Reading) → r.line ≡ [] → written_last r ≡ []
+unfolding written_last
+last_none r e = rw e
+
+pub last_some : (r : Reading) → (r.line ≡ [] → ⊥) → written_all r (10 ∷ []) ≡ written_last r
+unfolding written_last written_all written
+last_some r some =
+    rw (ne_eqb (length r.line) 0 (λ e. some (empty r.line e))) (append-nil (line_answer r.session r.line))
+  where
+    empty : (l : List ℕ) → length l ≡ 0 → l ≡ []
+    empty [] e = refl
+    empty (x ∷ l) e = absurd (omega arith)
 
 -- ---- bytes one behind the other
 
-pub taken-append : (r : Reading) (bs cs : List ℕ) → taken_all r (bs ++ cs) ≡ taken_all (taken_all r bs) cs
+taken-append : (r : Reading) (bs cs : List ℕ) → taken_all r (bs ++ cs) ≡ taken_all (taken_all r bs) cs
 unfolding taken_all
 taken-append r [] cs = refl
 taken-append r (b ∷ bs) cs = taken-append (taken r b) bs cs
 
-pub written-append : (r : Reading) (bs cs : List ℕ) → written_all r (bs ++ cs) ≡ written_all r bs ++ written_all (taken_all r bs) cs
+written-append : (r : Reading) (bs cs : List ℕ) → written_all r (bs ++ cs) ≡ written_all r bs ++ written_all (taken_all r bs) cs
 unfolding written_all taken_all
 written-append r [] cs = refl
 written-append r (b ∷ bs) cs = rw (written-append (taken r b) bs cs) (sym (append_assoc (written r b) (written_all (taken r b) bs) (written_all (taken_all (taken r b) bs) cs)))
 
-pub takes_none : {line words : List ℕ} (out : List ℕ) {p : Progress} → Holds line words p → Takes line words out p [] line words out p
-unfolding taken_all written_all splice
-takes_none out h = record { holds = h; state = refl; output = refl; end = omega arith }
+pub whole_none : (p : Progress) → ReadWhole p [] 0 p
+unfolding taken_all written_all
+whole_none p = record { state = refl; count = omega arith; output = sym (append-nil p.answers) }
 
-pub takes_more : {line words out : List ℕ} {p : Progress} {bs : List ℕ} {line₁ words₁ out₁ : List ℕ} {q : Progress} {c : ℕ} {line₂ words₂ out₂ : List ℕ} {t : Progress}
-    → Takes line words out p bs line₁ words₁ out₁ q → TakesOne line₁ words₁ out₁ q c line₂ words₂ out₂ t
-    → Takes line words out p (bs ++ c ∷ []) line₂ words₂ out₂ t
-takes_more {line} {words} {out} {p} {bs} {line₁} {words₁} {out₁} {q} {c} {line₂} {words₂} {out₂} {t} a one =
-    let r = reading_of line words p in
-    let b = one.takes in
-    let long = length-append (written_all r bs) (written_all (taken_all r bs) (c ∷ [])) in
-    let state' : reading_of line₂ words₂ t ≡ taken_all (taken_all r bs) (c ∷ []) = rw a.state at b.state in
-    let output' : out₂ ≡ splice out₁ q.end (written_all (taken_all r bs) (c ∷ [])) = rw a.state at b.output in
-    let end' : t.end ≡ q.end + length (written_all (taken_all r bs) (c ∷ [])) = rw a.state at b.end in
+-- all that is collected is written
+pub whole_flushed : {p : Progress} {n : ℕ} {q : Progress} → Flushed p n q → ReadWhole p [] n q
+unfolding taken_all written_all
+whole_flushed {p} {n} f =
+    rw f.emptied
+    (record {
+      state = refl;
+      count = omega (arith, f.count);
+      output = sym (ap (drop n) (append-nil p.answers) ∙ drop_of_length-le p.answers {i = n} (omega (arith, f.count)));
+    })
+
+pub whole_taken : {p : Progress} {bs : List ℕ} {q : Progress} → Takes p bs q → ReadWhole p bs 0 q
+whole_taken {p} {bs} t =
     record {
-      holds = b.holds;
-      state = state' ∙ sym (taken-append r bs (c ∷ []));
-      output = output' ∙ rw (a.output, a.end, written-append r bs (c ∷ [])) (sym (splice-append out p.end (written_all r bs) (written_all (taken_all r bs) (c ∷ []))));
-      end = rw (written-append r bs (c ∷ [])) (omega (arith, a.end));
+      state = t.state;
+      count = omega (arith, ap length t.output, length-append p.answers (written_all (reading_of p) bs));
+      output = t.output;
+    }
+
+pub whole_append : {p : Progress} {bs : List ℕ} {m : ℕ} {q : Progress} {cs : List ℕ} {n : ℕ} {t : Progress}
+    → ReadWhole p bs m q → ReadWhole q cs n t → ReadWhole p (bs ++ cs) (m + n) t
+whole_append {p} {bs} {m} {q} {cs} {n} {t} a b =
+    let r = reading_of p in
+    let us = written_all r bs in
+    let ws = written_all (taken_all r bs) cs in
+    let both = length-append p.answers us in
+    let state' : reading_of t ≡ taken_all (taken_all r bs) cs = rw a.state at b.state in
+    let count' : n + length t.answers ≡ length q.answers + length ws = rw a.state at b.count in
+    let output' : t.answers ≡ drop n (q.answers ++ ws) = rw a.state at b.output in
+    let more = written-append r bs cs in
+    record {
+      state = state' ∙ sym (taken-append r bs cs);
+      count = omega (arith, a.count, count', ap length more, length-append us ws);
+      output =
+          output' ∙ ap (λ (x : List ℕ). drop n (x ++ ws)) a.output
+          ∙ ap (drop n) (sym (drop-append-le m (p.answers ++ us) ws (omega (arith, a.count, both))))
+          ∙ drop-drop n m (p.answers ++ us ++ ws)
+          ∙ ap (drop (m + n)) (append_assoc p.answers us ws ∙ ap (◌++◌ p.answers) (sym more));
     }
 
 -- ---- a block
 
--- what the loop has read of the block, from p's place up to at
-pub record Goes (block line₀ words₀ out₀ : List ℕ) (p : Progress) (at : ℕ) (line words out : List ℕ) (q : Progress) : Type 0 where
-  pub low : p.at ≤ at
-  pub within : at ≤ length block
-  pub takes : Takes line₀ words₀ out₀ p (take (at - p.at) (drop p.at block)) line words out q
-  pub room : q.end ≤ length out
-  pub long : length out ≡ length out₀
+-- the first i bytes of the block are read
+pub record Goes (p : Progress) (block : List ℕ) (i sent : ℕ) (q : Progress) : Type 0 where
+  pub whole : ReadWhole p (take i block) sent q
+  pub few : sent ≤ i * 65536
 
-pub goes_start : (block out : List ℕ) {line words : List ℕ} {p : Progress} → Holds line words p → p.at ≤ length block → p.end ≤ length out
-    → Goes block line words out p p.at line words out p
-goes_start block out {p = p} h within room =
-    let z : p.at - p.at ≡ 0 = omega arith in
-    record { low = omega arith; within = within; takes = rw z (takes_none out h); room = room; long = refl }
+pub goes_start : (p : Progress) (block : List ℕ) → Goes p block 0 0 p
+goes_start p block = record { whole = whole_none p; few = omega arith }
 
-pub goes_on : {block line₀ words₀ out₀ : List ℕ} {p : Progress} {at : ℕ} {line words out : List ℕ} {q : Progress} {line' words' out' : List ℕ} {t : Progress}
-    → Goes block line₀ words₀ out₀ p at line words out q → at < length block → q.end + 16387 ≤ length out → length out' ≡ length out
-    → TakesOne line words out q (get_or block at 0) line' words' out' t → Goes block line₀ words₀ out₀ p (at + 1) line' words' out' t
-goes_on {block} {p = p} {at = at} g more room same one =
-    let e : at + 1 - p.at ≡ suc (at - p.at) = omega (arith, g.low) in
-    let f : p.at + (at - p.at) ≡ at = omega (arith, g.low) in
-    let next : take (at + 1 - p.at) (drop p.at block) ≡ take (at - p.at) (drop p.at block) ++ get_or block at 0 ∷ [] =
-    rw (e, take-suc (drop p.at block) (at - p.at) 0 (omega (arith, length-drop p.at block, g.low)), get_or-drop p.at block (at - p.at) 0, f) in
-    record {
-      low = omega (arith, g.low);
-      within = omega arith;
-      takes = rw next (takes_more g.takes one);
-      room = omega (arith, one.small);
-      long = same ∙ g.long;
-    }
+module _ {p : Progress} {block : List ℕ} {i sent : ℕ} {q : Progress} (g : Goes p block i sent q) where
+  pub goes_on : i < length block → {n : ℕ} {t u : Progress} → ReadWhole q [] n t → n ≤ 65536 → Takes t (get_or block i 0 ∷ []) u
+      → Goes p block (i + 1) (sent + n) u
+  goes_on more {n} {t} {u} room small taken =
+      let next : take i block ++ [] ++ get_or block i 0 ∷ [] ≡ take (i + 1) block = rw (add-one i, take-suc block i 0 more, append-nil (take i block)) in
+      let all : ReadWhole p (take i block ++ [] ++ get_or block i 0 ∷ []) (sent + n + 0) u = whole_append (whole_append g.whole room) (whole_taken taken) in
+      let sum : sent + n + 0 ≡ sent + n = omega arith in
+      record { whole = rw (next, sum) at all; few = omega (arith, g.few) }
 
-pub goes_stop : {block line₀ words₀ out₀ : List ℕ} {p : Progress} {at : ℕ} {line words out : List ℕ} {q : Progress} {t : Progress}
-    → Goes block line₀ words₀ out₀ p at line words out q → t ≡ record { at = at; kept = q.kept; length = q.length; end = q.end }
-    → (at < length block → length out < q.end + 16387) → ReadOn block line₀ words₀ out₀ p line words out t
-goes_stop {q = q} g e stops =
-    rw e
-    (record {
-      low = g.low;
-      within = g.within;
-      takes = record {
-        holds = record { characters = g.takes.holds.characters; whole = g.takes.holds.whole; few = g.takes.holds.few; held = g.takes.holds.held };
-        state = g.takes.state;
-        output = g.takes.output;
-        end = g.takes.end;
-      };
-      room = omega (arith, g.room, g.long);
-      stops = λ h. omega (arith, stops h, g.long);
-    })
+  pub goes_done : length block ≤ i → ReadWhole p block sent q
+  goes_done end = rw (take_all i block end) at g.whole
+
+-- ---- standard input
+
+pub some-none : (p : Progress) → ReadSome p p
+some-none p = record { input = []; sent = 0; whole = whole_none p }
+
+pub some_more : {p q : Progress} {bytes : List ℕ} {n : ℕ} {t : Progress} → ReadSome p q → ReadWhole q bytes n t → ReadSome p t
+some_more {bytes = bytes} {n} a b = record { input = a.input ++ bytes; sent = a.sent + n; whole = whole_append a.whole b }
+
+pub last_whole : {p : Progress} {n : ℕ} {q : Progress} → Flushed p n q → {t : Progress} → t.answers ≡ q.answers ++ written_last (reading_of q)
+    → Last p t (n + length t.answers)
+last_whole {p} {n} f {t} e =
+    let made : t.answers ≡ written_last (reading_of p) = rw f.emptied at e in
+    record { count = omega (arith, f.count, ap length made); output = made }

@@ -1,42 +1,65 @@
 -- The words of a frame, read one behind the other. Assumes nothing.
-use mathlib.Core.Path.{◌≡◌, refl, ap, ◌∙◌}
-use mathlib.Core.List.{List}
-use Prim.Native.Nat.{ℕ, zero, suc, ◌+◌, ◌-◌, ◌≤◌, ◌<◌}
-use native.Mathlib.Nat.{add-zero, sub-zero}
-use native.Mathlib.Omega.{arith}
-use lib.ListN.{length, set, take}
-use Rattle.words.specs.Splice.{splice}
-use Rattle.words.specs.Parts.{part-splice-written}
-use Rattle.words.specs.Writes.{Writes, writes_start, writes-word, writes-done}
-use Rattle.frames.specs.Lines.{argument, arguments}
+use Rattle.std.specs.Prelude.{◌≡◌, refl, Bool, true, false, cond, List, [], ◌∷◌, ◌++◌, ℕ, suc, ◌+◌, ◌-◌, ◌*◌, ◌≤◌, ◌<◌, eqb, length, set, take, Ok, Err}
+use Rattle.std.proofs.Common.{sym, ap, ◌∙◌, add-zero, add-one, append-nil, append_assoc, arith, length-set, ne_eqb}
+use Rattle.std.proofs.lemmas.Bool.{eq-eqb}
+use native.Mathlib.Nat.{sub-zero}
+use lib.Seq.{take_all, take-suc-set}
+use Rattle.frames.specs.Lines.{Frame, malformed, argument, arguments, with_words}
+use Rattle.frames.specs.Calling.{words_in}
+use Rattle.frames.specs.declared.calls.Refusal.{Refusal}
+use Rattle.frames.specs.declared.calls.Refusal.TheVariants.{Malformed}
 
-pub length-arguments : (n : ℕ) (bytes : List ℕ) (i : ℕ) → length (arguments n bytes i) ≡ n
-unfolding arguments
-length-arguments zero bytes i = refl
-length-arguments (suc n) bytes i = ap suc (length-arguments n bytes (suc i))
+-- of n words from place first on, i are read
+pub record Reads (bytes words : List ℕ) (first n i : ℕ) : Type 0 where
+  pub long : length words ≡ n
+  pub whole : take i words ++ arguments (n - i) bytes (first + i) ≡ arguments n bytes first
 
--- of count words from place first on, i are read to the start of ws, which was ws₀
-pub record Reads (bytes ws₀ ws : List ℕ) (first count i : ℕ) : Type 0 where
-  pub within : i ≤ count
-  pub writes : Writes ws₀ ws 0 i (arguments count bytes first) (arguments (count - i) bytes (first + i))
+pub reads_start : (bytes words : List ℕ) (first : ℕ) → Reads bytes words first (length words) 0
+reads_start bytes words first = record { long = refl; whole = rw (add-zero first, sub-zero (length words)) }
 
-pub words_start : (bytes ws : List ℕ) (first count : ℕ) → Reads bytes ws ws first count 0
-words_start bytes ws first count =
-    record { within = omega arith; writes = rw (add-zero first, sub-zero count) (writes_start ws 0 (arguments count bytes first)) }
-
-module _ {bytes ws₀ ws : List ℕ} {first count i : ℕ} (h : Reads bytes ws₀ ws first count i) where
-  pub words_word : i < count → {w : ℕ} → w ≡ argument bytes (first + i) → Reads bytes ws₀ (set ws i w) first count (i + 1)
+module _ {bytes words : List ℕ} {first n i : ℕ} (h : Reads bytes words first n i) where
+  pub reads_word : i < n → {w : ℕ} → w ≡ argument bytes (first + i) → Reads bytes (set words i w) first n (i + 1)
   unfolding arguments
-  words_word more is =
-      let e : count - i ≡ suc (count - (i + 1)) = omega arith in
-      let f : suc (first + i) ≡ first + (i + 1) = omega arith in
-      record { within = omega arith; writes = rw f at (writes-word (rw (e, ← is) at h.writes)) }
+  reads_word more {w} is =
+      let left : n - i ≡ suc (n - (i + 1)) = omega arith in
+      let next : suc (first + i) ≡ first + (i + 1) = omega arith in
+      let one : arguments (n - i) bytes (first + i) ≡ w ∷ arguments (n - (i + 1)) bytes (first + (i + 1)) = rw (left, ← is, next) in
+      record {
+        long = length-set words i w ∙ h.long;
+        whole =
+            rw (add-one i, take-suc-set words i w (omega (arith, h.long)), ← add-one i)
+            (append_assoc (take i words) (w ∷ []) (arguments (n - (i + 1)) bytes (first + (i + 1))) ∙ ap (λ (x : List ℕ). take i words ++ x) (sym one) ∙ h.whole);
+      }
 
-  pub words_done : count ≤ i → count ≤ length ws₀ → take count ws ≡ arguments count bytes first
+  pub reads_done : n ≤ i → words ≡ arguments n bytes first
   unfolding arguments
-  words_done all room =
-      let e : count - i ≡ 0 = omega arith in
-      let made : ws ≡ splice ws₀ 0 (arguments count bytes first) = writes-done (rw e at h.writes) in
-      let long = length-arguments count bytes first in
-      let part = part-splice-written ws₀ 0 (arguments count bytes first) (omega (arith, long)) in
-      ap (take count) made ∙ (rw long at part)
+  reads_done end =
+      let none : n - i ≡ 0 = omega arith in
+      let whole : take i words ++ [] ≡ arguments n bytes first = rw none at h.whole in
+      sym (take_all i words (omega (arith, h.long))) ∙ sym (append-nil (take i words)) ∙ whole
+
+-- ---- a count of words that is asked for
+
+module _ (n : ℕ) (bytes : List ℕ) where
+  pub words_wrong : (length bytes ≡ 4 * n → ⊥) → Err Malformed ≡ words_in n bytes
+  unfolding words_in
+  words_wrong e = rw (ne_eqb (length bytes) (4 * n) e)
+
+  pub words_right : length bytes ≡ 4 * n → {ws : List ℕ} → ws ≡ arguments n bytes 0 → Ok ws ≡ words_in n bytes
+  unfolding words_in
+  words_right e is = rw (eq-eqb (length bytes) (4 * n) e, ← is)
+
+  -- another count is malformed
+  pub words_err : {r : Refusal} (f : Frame) → Err r ≡ words_in n bytes → (r ≡ Malformed) × (with_words n bytes f ≡ malformed)
+  unfolding words_in with_words
+  words_err {r} f e = go (eqb (length bytes) (4 * n)) e where
+    go : (b : Bool) → Err r ≡ cond b (Ok (arguments n bytes 0)) (Err Malformed) → (r ≡ Malformed) × (cond b f malformed ≡ malformed)
+    go true e = absurd (cc)
+    go false e = (cc, refl)
+
+  pub words_ok : {ws : List ℕ} (f : Frame) → Ok ws ≡ words_in n bytes → (ws ≡ arguments n bytes 0) × (with_words n bytes f ≡ f)
+  unfolding words_in with_words
+  words_ok {ws} f e = go (eqb (length bytes) (4 * n)) e where
+    go : (b : Bool) → Ok ws ≡ cond b (Ok (arguments n bytes 0)) (Err Malformed) → (ws ≡ arguments n bytes 0) × (cond b f malformed ≡ f)
+    go true e = (cc, refl)
+    go false e = absurd (cc)

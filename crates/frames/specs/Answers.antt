@@ -60,7 +60,7 @@ file_after s (write_frame i) = elim (write_number s i output_bytes) [ zero ↦ s
 
 -- One line: the number in two hexadecimal digits, then a written file; a line feed.
 unfoldable pub answer_of : List ℕ → Frame → List ℕ
-unfolding byte_digits number_of file_after
+unfolding number_of file_after
 answer_of s f = byte_digits (number_of s f) ++ digits_of (file_after s f) ++ 10 ∷ []
 
 -- The same of a line of input.

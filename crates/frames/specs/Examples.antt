@@ -1,17 +1,15 @@
 -- Lines and their answers by computation: the paper's example, malformed lines, lines before an accepted open. Assumes nothing.
 use Rattle.std.specs.Prelude.{◌≡◌, refl, List, [], ◌∷◌, ◌++◌, map, ℕ}
 use Rattle.model.specs.Lists.{gather}
-use Rattle.frames.specs.Digits.{digit_value, digit_of, byte_digits, digits_of}
+use Rattle.frames.specs.Digits.{digits_of}
 use Rattle.frames.specs.Answers.{line_answer, line_after, answers}
 
 -- Lines of digits, given by their bytes.
 unfoldable pub lines : List (List ℕ) → List (List ℕ)
-unfolding byte_digits
 lines = map digits_of
 
 -- The same as one text, each with its line feed.
 unfoldable pub text : List (List ℕ) → List ℕ
-unfolding byte_digits
 text = gather (λ bytes. digits_of bytes ++ 10 ∷ [])
 
 -- ---- the paper's example
@@ -32,7 +30,7 @@ outputs =
     ∷ (0x00 ∷ 0x4D ∷ 0x54 ∷ 0x68 ∷ 0x64 ∷ 0x00 ∷ 0x00 ∷ 0x00 ∷ 0x06 ∷ 0x00 ∷ 0x00 ∷ 0x00 ∷ 0x01 ∷ 0x00 ∷ 0x0A ∷ 0x4D ∷ 0x54 ∷ 0x72 ∷ 0x6B ∷ 0x00 ∷ 0x00 ∷ 0x00 ∷ 0x0C ∷ 0x08 ∷ 0x90 ∷ 0x3C ∷ 0x64 ∷ 0x04 ∷ 0x80 ∷ 0x3C ∷ 0x40 ∷ 0x08 ∷ 0xFF ∷ 0x2F ∷ 0x00 ∷ []) ∷ []
 
 pub the_example : answers [] (lines frames) ≡ text outputs
-unfolding answers line_answer line_after lines text frames outputs digit_value digit_of
+unfolding answers line_answer line_after lines text frames outputs
 the_example = refl
 
 -- ---- malformed lines, before any other number
@@ -48,7 +46,7 @@ malformed_lines =
     ∷ (0x02 ∷ 0 ∷ 0 ∷ 0 ∷ 0 ∷ []) ∷ (0x06 ∷ 0 ∷ 0 ∷ 0 ∷ []) ∷ [])
 
 pub all_malformed : map (line_answer []) malformed_lines ≡ map (λ l. 70 ∷ 70 ∷ 10 ∷ []) malformed_lines
-unfolding line_answer malformed_lines lines digit_value digit_of
+unfolding line_answer malformed_lines lines
 all_malformed = refl
 
 -- ---- before an accepted open
@@ -60,5 +58,5 @@ unopened =
     ∷ (0x04 ∷ 0 ∷ 0 ∷ 0 ∷ 0 ∷ 0 ∷ 0 ∷ 0 ∷ 0 ∷ 0 ∷ 0 ∷ 0 ∷ 1 ∷ []) ∷ (0x05 ∷ 0 ∷ 0 ∷ 0 ∷ 0 ∷ []) ∷ (0x06 ∷ 0 ∷ 0 ∷ 0 ∷ 0 ∷ []) ∷ []
 
 pub all-unopened : answers [] (lines unopened) ≡ text (map (λ l. 0x01 ∷ []) unopened)
-unfolding answers line_answer line_after lines text unopened digit_value digit_of
+unfolding answers line_answer line_after lines text unopened
 all-unopened = refl

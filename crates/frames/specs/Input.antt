@@ -12,12 +12,12 @@ unfoldable pub start : Reading
 start = record { session = []; line = [] }
 
 -- More than 4,001 characters of a line are not kept: it is malformed whatever follows.
-unfoldable pub kept : List ℕ → ℕ → List ℕ
+abbrev pub kept : List ℕ → ℕ → List ℕ
 kept line c = cond (ltb (length line) 4001) (line ++ c ∷ []) line
 
 -- The next byte: a line feed ends the line in hand.
 unfoldable pub taken : Reading → ℕ → Reading
-unfolding line_after kept
+unfolding line_after
 taken r c =
     cond (eqb c 10) (record { session = line_after r.session r.line; line = [] })
     (record { session = r.session; line = kept r.line c })

@@ -1,9 +1,8 @@
 -- Frames: what a line of input, without its line feed, stands for. Assumes nothing.
-use Rattle.std.specs.Prelude.{Bool, ◌&&◌, cond, List, [], ◌∷◌, ℕ, zero, suc, ◌-◌, ◌*◌, ◌/◌, ◌%◌, leb, eqb, length, drop}
-use Rattle.model.specs.Lists.{every}
+use Rattle.std.specs.Prelude.{◌&&◌, cond, List, [], ◌∷◌, ℕ, zero, suc, ◌-◌, ◌*◌, ◌/◌, ◌%◌, leb, eqb, length, drop, Option, Some, None}
 use Rattle.model.specs.declared.Header.{Header}
 use Rattle.midi.specs.Numbers.{word32}
-use Rattle.frames.specs.Digits.{is_digit, bytes_of}
+use Rattle.frames.specs.Digits.{bytes_of}
 
 -- A line is malformed, or a call with its arguments.
 pub data Frame : Type 0 where
@@ -21,14 +20,10 @@ pub data Frame : Type 0 where
 abbrev pub max_digits : ℕ
 max_digits = 4000
 
--- At most 4,000 characters, no odd digit, no other character.
-unfoldable pub digits_ok : List ℕ → Bool
-digits_ok line = leb (length line) max_digits && eqb (length line % 2) 0 && every is_digit line
-
--- Its bytes; none where it is not made of digits so.
-unfoldable pub decoded : List ℕ → List ℕ
-unfolding digits_ok bytes_of
-decoded line = cond (digits_ok line) (bytes_of line) []
+-- Its bytes; none of a line of more characters, or one with an odd digit or another character.
+unfoldable pub decoded : List ℕ → Option (List ℕ)
+unfolding bytes_of
+decoded line = cond (leb (length line) max_digits) (bytes_of line) None
 
 -- ---- the call of a frame: a call byte, then the bytes of its arguments
 
@@ -95,7 +90,12 @@ unfolding call_of
 frame_of [] = malformed
 frame_of (c ∷ bytes) = call_of c bytes
 
--- The frame of a line.
+-- The frame of a line's bytes, and of a line.
+unfoldable pub frame_read : Option (List ℕ) → Frame
+unfolding frame_of
+frame_read None = malformed
+frame_read (Some bytes) = frame_of bytes
+
 unfoldable pub frame_in : List ℕ → Frame
-unfolding frame_of decoded
-frame_in line = frame_of (decoded line)
+unfolding frame_read decoded
+frame_in line = frame_read (decoded line)

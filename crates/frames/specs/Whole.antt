@@ -1,8 +1,8 @@
 -- All that is written for an input is the answers to its lines. Assumes nothing.
-use Rattle.std.specs.Prelude.{◌≡◌, refl, Bool, true, false, cond, List, [], ◌∷◌, ◌++◌, ℕ, ◌<◌, eqb, ltb, length}
+use Rattle.std.specs.Prelude.{◌≡◌, refl, Bool, true, false, cond, List, [], ◌∷◌, ◌++◌, ℕ, ◌<◌, eqb, ltb, length, None}
 use Rattle.std.proofs.Common.{sym, ap, ◌∙◌, append-nil, append_assoc, arith, ltb-false, ne_eqb, length-append}
 use Rattle.std.proofs.lemmas.Bool.{lt-leb}
-use Rattle.frames.specs.Lines.{Frame, digits_ok, decoded, frame_in}
+use Rattle.frames.specs.Lines.{Frame, decoded, frame_in}
 use Rattle.frames.specs.Answers.{session_after, answer_of, line_answer, line_after, answers}
 use Rattle.frames.specs.Input.{Reading, start, kept, taken, written, taken_all, written_all, written_last, output_of, lines_from}
 
@@ -11,8 +11,8 @@ data Alike (k l : List ℕ) : Type 0 where
   same : k ≡ l → Alike k l
   long : 4000 < length k → 4000 < length l → Alike k l
 
-none-decoded : (l : List ℕ) → 4000 < length l → decoded l ≡ []
-unfolding decoded digits_ok
+none-decoded : (l : List ℕ) → 4000 < length l → decoded l ≡ None
+unfolding decoded
 none-decoded l h = rw (lt-leb (length l) 4000 h)
 
 alike_frame : {k l : List ℕ} → Alike k l → frame_in k ≡ frame_in l
@@ -21,7 +21,6 @@ alike_frame (same e) = ap frame_in e
 alike_frame {k} {l} (long a b) = rw (none-decoded k a, none-decoded l b)
 
 alike_kept : {k l : List ℕ} (c : ℕ) → Alike k l → Alike (kept k c) (l ++ c ∷ [])
-unfolding kept
 alike_kept {k} {l} c a = go (ltb (length k) 4001) refl a where
   go : (b : Bool) → ltb (length k) 4001 ≡ b → Alike k l → Alike (cond b (k ++ c ∷ []) k) (l ++ c ∷ [])
   go true e (same h) = same (ap (λ (x : List ℕ). x ++ c ∷ []) h)

@@ -1,106 +1,90 @@
 // The answer to a line: what it leaves of the session, and the line that is written for it.
-ghost use Rattle.std.specs.Prelude.{◌≡◌, [], ◌∷◌, ◌++◌, ◌+◌, ◌≤◌, ◌<◌, length};
+ghost use Rattle.std.specs.Prelude.{◌≡◌, [], ◌∷◌, ◌++◌, ◌+◌, ◌≤◌, length};
 ghost use Rattle.frames.specs.Digits.{byte_digits};
-ghost use Rattle.frames.specs.Lines.{write_of, change_of, frame_of, frame_in};
-ghost use Rattle.frames.specs.Answers.{max_session, answer_of};
-ghost use Rattle.frames.specs.Calling.{Changed};
-ghost use Rattle.frames.specs.Answering.{max_answer, Put, Answers};
+ghost use Rattle.frames.specs.Lines.{write_of, call_of, frame_of, frame_in};
+ghost use Rattle.frames.specs.Answers.{answer_of};
+ghost use Rattle.frames.specs.Calling.{number_in};
+ghost use Rattle.frames.specs.Answering.{out_bytes, max_answer, Answers};
 
+use crate::buffer::Buffer;
+use crate::calls::{OUTPUT_BYTES, Refusal};
+use crate::sessions::Session;
 use crate::{calls, digits};
 
-// What a line leaves: the length of the session in words, and the place behind the answer in the output.
-#[derive(Drop)]
-pub struct Answered {
-    pub length: usize,
-    pub end: usize,
+// The bytes of answers that are collected before they are written.
+pub const OUT_BYTES: usize = 65536;
+
+// The answers that are collected.
+pub type Output = Buffer<OUT_BYTES>;
+
+// The number of an outcome.
+fn number(outcome: Result<(), Refusal>) -> u8
+    ensures { result ≡ number_in outcome }
+{
+    match outcome {
+        Ok(()) => 0,
+        Err(refusal) => u8::from(refusal),
+    }
 }
 
-// The bytes of the output that a write frame's file must fit.
-const OUTPUT_BYTES: usize = 8192;
-
-// The calls that change an open session, by their call byte. Returns 255 for an unknown one.
-fn change(session: &mut [u32], call: u8, bytes: &[u8]) -> u32
-    requires { length bytes.now ≤ 2000 }
-    ensures { Changed session.old (change_of call bytes.now) session.new result }
+// Writes an answer without a file: its number and a line feed.
+fn put_number(out: &mut Output, outcome: Result<(), Refusal>)
+    requires { length out.old + 3 ≤ out_bytes }
+    ensures { out.new ≡ out.old ++ (byte_digits (number_in outcome) ++ 10 ∷ []) }
 {
-    if call == 2 {
-        return calls::lay(session, bytes);
-    }
-    if call == 3 {
-        return calls::split(session, bytes);
-    }
-    if call == 4 {
-        return calls::join(session, bytes);
-    }
-    if call == 6 {
-        return calls::load(session, bytes);
-    }
-    255
-}
-
-// Writes an answer without a file from place `at` on: the number and a line feed. Returns the place behind it.
-fn put_number(out: &mut [u8], at: usize, number: u32) -> usize
-    requires { (number ≤ 255) × (at + 3 ≤ length out.old) }
-    ensures { Put out.old at (byte_digits number ++ 10 ∷ []) out.new result }
-{
-    digits::put_byte(out, at, number as u8);
-    out[at + 2] = 10;
-    at + 3
+    digits::put_byte(out, number(outcome));
+    out.push(b'\n');
 }
 
 // Writes the answer to a write frame: the number, the written file and a line feed.
-fn answer_write(session: &[u32], bytes: &[u8], out: &mut [u8], at: usize) -> usize
-    requires { at + max_answer ≤ length out.old }
-    ensures { Put out.old at (answer_of session.now (write_of bytes.now)) out.new result }
+fn answer_write(session: &[u32], bytes: &[u8], out: &mut Output)
+    requires { length out.old + max_answer ≤ out_bytes }
+    ensures { out.new ≡ out.old ++ answer_of session.now (write_of bytes.now) }
 {
-    let mut file = [0u8; OUTPUT_BYTES];
-    let done = calls::write(session, bytes, &mut file);
-    let size = done.size;
-    digits::put_byte(out, at, done.number as u8);
-    let end = digits::put_digits(out, at + 2, &file[..size]);
-    out[end] = 10;
-    end + 1
-}
-
-// Answers a frame's bytes, one at least: carries its call out, and writes the answer from place `at` on.
-fn answer_frame(frame: &[u8], words: &mut [u32], held: usize, out: &mut [u8], at: usize) -> Answered
-    requires { (0 < length frame.now) × (length frame.now ≤ 2000) × (held ≤ max_session) × (length words.old ≡ max_session) × (at + max_answer ≤ length out.old) }
-    ensures { Answers words.old held out.old at (frame_of frame.now) words.new out.new result }
-{
-    let call = frame[0];
-    let bytes = &frame[1..];
-    if call == 1 {
-        let done = calls::open_frame(words, held, bytes);
-        return Answered {
-            length: done.size,
-            end: put_number(out, at, done.number),
-        };
-    }
-    if call == 5 {
-        return Answered {
-            length: held,
-            end: answer_write(&words[..held], bytes, out, at),
-        };
-    }
-    let number = change(&mut words[..held], call, bytes);
-    Answered {
-        length: held,
-        end: put_number(out, at, number),
+    let mut file = [0; OUTPUT_BYTES];
+    match calls::write(session, bytes, &mut file) {
+        Ok(size) => {
+            digits::put_byte(out, 0);
+            digits::put_digits(out, &file[..size]);
+            out.push(b'\n');
+        }
+        Err(refusal) => put_number(out, Err(refusal)),
     }
 }
 
-// Answers a line: carries its call out on the session, the first `held` words, and writes the answer from place `at` on.
-pub fn answer(line: &[u8], words: &mut [u32], held: usize, out: &mut [u8], at: usize) -> Answered
-    requires { (held ≤ max_session) × (length words.old ≡ max_session) × (at + max_answer ≤ length out.old) }
-    ensures { Answers words.old held out.old at (frame_in line.now) words.new out.new result }
+// Carries a call out on the session, and writes its answer.
+fn answer_call(call: u8, bytes: &[u8], session: &mut Session, out: &mut Output)
+    requires room { length out.old + max_answer ≤ out_bytes }
+    requires few { length bytes.now ≤ 2000 }
+    ensures { Answers session.old out.old (call_of call bytes.now) session.new out.new }
 {
-    let mut bytes = [0u8; 2000];
-    let count = digits::decode(line, &mut bytes);
-    if count == 0 {
-        return Answered {
-            length: held,
-            end: put_number(out, at, 255),
-        };
+    match call {
+        1 => put_number(out, session.open(bytes)),
+        5 => answer_write(session.words(), bytes, out),
+        _ => put_number(out, session.change(call, bytes)),
     }
-    answer_frame(&bytes[..count], words, held, out, at)
+}
+
+// Answers a frame's bytes; none are malformed.
+fn answer_frame(frame: &[u8], session: &mut Session, out: &mut Output)
+    requires room { length out.old + max_answer ≤ out_bytes }
+    requires few { length frame.now ≤ 2000 }
+    ensures { Answers session.old out.old (frame_of frame.now) session.new out.new }
+{
+    match frame {
+        [call, bytes @ ..] => answer_call(*call, bytes, session, out),
+        [] => put_number(out, Err(Refusal::Malformed)),
+    }
+}
+
+// Answers a line: carries its call out on the session, and writes the answer.
+pub fn answer(line: &[u8], session: &mut Session, out: &mut Output)
+    requires { length out.old + max_answer ≤ out_bytes }
+    ensures { Answers session.old out.old (frame_in line.now) session.new out.new }
+{
+    let mut bytes = Buffer::new();
+    match digits::decode(line, &mut bytes) {
+        Some(frame) => answer_frame(frame, session, out),
+        None => put_number(out, Err(Refusal::Malformed)),
+    }
 }

@@ -2,7 +2,9 @@
 #![tactic(auto)]
 
 pub mod answers;
+pub mod buffer;
 pub mod calls;
 pub mod digits;
 pub mod input;
 pub mod program;
+pub mod sessions;

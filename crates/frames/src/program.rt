@@ -1,158 +1,103 @@
 // The program: reads frames from standard input, a line each, and writes a line of answer for each. What is read and written is given in
 // input and answers; here are the calls that read and write.
-ghost use Rattle.std.specs.Prelude.{◌≡◌, ◌+◌, ◌≤◌, length};
+ghost use Rattle.std.specs.Prelude.{◌≡◌, ◌++◌, ◌+◌, ◌≤◌, [], length};
 ghost use Rattle.frames.specs.Input.{written_last};
-ghost use Rattle.frames.specs.Answering.{max_answer, Put};
-ghost use Rattle.frames.specs.Blocks.{reading_of, Holds};
-ghost use Rattle.frames.specs.Loop.{block_bytes, out_bytes, ReadWhole, ReadSome, Last};
+ghost use Rattle.frames.specs.Answering.{out_bytes, max_answer};
+ghost use Rattle.frames.specs.Blocks.{reading_of};
+ghost use Rattle.frames.specs.Loop.{block_bytes, Flushed, ReadWhole, ReadSome, Last};
 
+use crate::buffer::Buffer;
 use crate::input::Progress;
-use crate::{calls, input};
+use crate::sessions::Session;
 use std::io::{Read, Stdin, Stdout, Write};
-
-// The words that a session is kept in.
-const SESSION_WORDS: usize = calls::MAX_SESSION as usize;
-
-// The bytes of answers that are collected before they are written.
-const OUT_BYTES: usize = 65536;
 
 // The bytes of input that are read at once.
 const BLOCK_BYTES: usize = 65536;
 
-// Where reading stands behind a block, and how many bytes of answers were written while it was read.
-#[derive(Drop)]
-struct BlockEnd {
-    progress: Progress,
-    sent: usize,
+// Writes answers. Returns how many bytes they are, also where the system does not take them: what it takes is named by no contract.
+fn send(to: &mut Stdout, answers: &[u8]) -> usize
+    ensures { result ≡ length answers.now }
+{
+    let _ = to.write_all(answers);
+    answers.len()
 }
 
-// Writes the answers that are collected, the bytes before `end`. Returns how many they are, also where the system does not take them.
-fn flush(to: &mut Stdout, out: &[u8], end: usize) -> usize
-    requires { end ≤ length out.now }
-    ensures { result ≡ end }
-{
-    let _ = to.write_all(&out[..end]);
-    end
-}
-
-// The same with no answers collected.
-fn emptied(p: Progress) -> Progress
-    ensures { result ≡ record { at = p.at; kept = p.kept; length = p.length; end = 0 } }
-{
-    Progress {
-        at: p.at,
-        kept: p.kept,
-        length: p.length,
-        end: 0,
+impl Progress {
+    // Writes the answers that are collected, and forgets them. Returns how many bytes they are.
+    fn flush(&mut self, to: &mut Stdout) -> usize
+        ensures { Flushed self.old result self.new }
+    {
+        let sent = send(to, self.answers.as_slice());
+        self.answers.clear();
+        sent
     }
-}
 
-// The start of another block.
-fn rewound(p: Progress) -> Progress
-    ensures { result ≡ record { at = 0; kept = p.kept; length = p.length; end = p.end } }
-{
-    Progress {
-        at: 0,
-        kept: p.kept,
-        length: p.length,
-        end: p.end,
-    }
-}
-
-// Reads a whole block. The answers are written each time that there is no room for another.
-fn read_block(
-    to: &mut Stdout,
-    block: &[u8],
-    line: &mut [u8],
-    words: &mut [u32],
-    out: &mut [u8],
-    p: Progress,
-) -> BlockEnd
-    requires { Holds line.old words.old p × (p.end ≤ length out.old) × (length out.old ≡ out_bytes) × (length block.now ≤ block_bytes) }
-    ensures { ReadWhole line.old words.old out.old p block.now result.sent line.new words.new out.new result.progress }
-{
-    let mut now = input::read_on(block, line, words, out, rewound(p));
-    let mut sent = 0;
-    while now.at < block.len() {
-        sent += flush(to, out, now.end);
-        now = input::read_on(block, line, words, out, emptied(now));
-    }
-    BlockEnd {
-        progress: now,
-        sent,
-    }
-}
-
-// Reads some bytes into the block. Returns how many: none at the input's end, or where the system cannot read it.
-fn read_some(from: &mut Stdin, block: &mut [u8]) -> usize
-    ensures { result ≤ length block.new }
-{
-    match from.read(block) {
-        Ok(n) => n,
-        Err(_) => 0,
-    }
-}
-
-// Reads standard input to its end.
-fn read_all(
-    from: &mut Stdin,
-    to: &mut Stdout,
-    line: &mut [u8],
-    words: &mut [u32],
-    out: &mut [u8],
-    p: Progress,
-) -> Progress
-    requires { Holds line.old words.old p × (p.end ≤ length out.old) × (length out.old ≡ out_bytes) }
-    ensures { ReadSome line.old words.old out.old p line.new words.new out.new result }
-{
-    let mut block = [0u8; BLOCK_BYTES];
-    let mut now = p;
-    let mut turns = u64::MAX;
-    while turns > 0 {
-        let n = read_some(from, &mut block);
-        if n == 0 {
-            return now;
+    // Writes the answers that are collected if there is no room for another. Returns how many bytes are written.
+    fn make_room(&mut self, to: &mut Stdout) -> usize
+        ensures written { ReadWhole self.old [] result self.new }
+        ensures few { result ≤ out_bytes }
+        ensures room { length self.new.answers + max_answer ≤ out_bytes }
+    {
+        if self.has_room() {
+            return 0;
         }
-        let done = read_block(to, &block[..n], line, words, out, now);
-        now = done.progress;
-        turns -= 1;
+        self.flush(to)
     }
-    now
-}
 
-// Answers a last line without a line feed, if it has a character. Returns the place behind the answer.
-fn last_line(line: &[u8], words: &mut [u32], out: &mut [u8], p: Progress) -> usize
-    requires { Holds line.now words.old p × (p.end + max_answer ≤ length out.old) }
-    ensures { Put out.old p.end (written_last (reading_of line.now words.old p)) out.new result }
-{
-    if p.kept == 0 {
-        return p.end;
+    // Reads a whole block. Returns how many bytes of answers are written.
+    fn read_block(&mut self, to: &mut Stdout, block: &[u8]) -> usize
+        requires { length block.now ≤ block_bytes }
+        ensures { ReadWhole self.old block.now result self.new }
+    {
+        let mut sent = 0;
+        for c in block {
+            sent += self.make_room(to);
+            self.next(*c);
+        }
+        sent
     }
-    let last = input::end_line(line, words, out, p);
-    last.end
-}
 
-// Writes all that is collected, and then the answer to the last line. Returns how many bytes these are.
-fn finish(to: &mut Stdout, line: &[u8], words: &mut [u32], out: &mut [u8], p: Progress) -> usize
-    requires { Holds line.now words.old p × (p.end ≤ length out.old) × (length out.old ≡ out_bytes) }
-    ensures { Last line.now words.old p out.new result }
-{
-    let sent = flush(to, out, p.end);
-    let end = last_line(line, words, out, emptied(p));
-    sent + flush(to, out, end)
+    // Reads standard input to its end, or until the system cannot read it.
+    fn read_all(&mut self, from: &mut Stdin, to: &mut Stdout)
+        ensures { ReadSome self.old self.new }
+    {
+        let mut block = [0; BLOCK_BYTES];
+        for _ in 0..u64::MAX {
+            let n = from.read(&mut block).unwrap_or(0);
+            if n == 0 {
+                return;
+            }
+            self.read_block(to, &block[..n]);
+        }
+    }
+
+    // Answers a last line without a line feed, if it has a character.
+    fn last_line(&mut self)
+        requires { length self.old.answers + max_answer ≤ out_bytes }
+        ensures { self.new.answers ≡ self.old.answers ++ written_last (reading_of self.old) }
+    {
+        if !self.line.is_empty() {
+            self.end_line();
+        }
+    }
+
+    // Writes all that is collected, and then the answer to the last line. Returns how many bytes these are.
+    fn finish(&mut self, to: &mut Stdout) -> usize
+        ensures { Last self.old self.new result }
+    {
+        let sent = self.flush(to);
+        self.last_line();
+        sent + send(to, self.answers.as_slice())
+    }
 }
 
 // Answers standard input to its end.
 pub fn run(from: &mut Stdin, to: &mut Stdout) {
-    let mut line = [0u8; input::MAX_KEPT];
-    let mut words = [0u32; SESSION_WORDS];
-    let mut out = [0u8; OUT_BYTES];
-    let start = Progress {
-        at: 0,
-        kept: 0,
-        length: 0,
-        end: 0,
+    let mut progress = Progress {
+        session: Session::new(),
+        line: Buffer::new(),
+        answers: Buffer::new(),
     };
-    let end = read_all(from, to, &mut line, &mut words, &mut out, start);
-    finish(to, &line, &mut words, &mut out, end);
+    progress.read_all(from, to);
+    progress.finish(to);
 }

@@ -1,11 +1,18 @@
 -- `frames::calls::join` meets its contract.
-use mathlib.Core.Path.{◌∙◌}
+use Rattle.std.proofs.Common.{refl}
+use Rattle.std.proofs.lemmas.Result.{err_from_is_err_and}
 use Rattle.frames.proofs.Carried.{join_wrong, join-done}
-use native.Mathlib.Omega.{arith}
 use Rattle.frames.proofs.calls.join.Goals as goal
 
-pub returns-then-bytes-ne12 : goal.returns-then-bytes-ne12
-returns-then-bytes-ne12 c = join_wrong _ _ c.if-bytes-ne12.true
+pub returns-in_err-first : goal.returns-in_err-first
+returns-in_err-first c =
+    let p = err_from_is_err_and c.from_residual.result c.from_residual.ensures.1 in
+    rw (p.1, p.2) (join_wrong _ _ c.in_err-first.ensures)
+
+pub returns-in_err-take_join : goal.returns-in_err-take_join
+returns-in_err-take_join c =
+    let p = err_from_is_err_and c.from_residual-in_err-take_join.result c.from_residual-in_err-take_join.ensures.1 in
+    rw (p.1, p.2) (join-done _ _ c.in_ok-first.ensures (c.in_err-take_join.ensures.number, c.in_err-take_join.ensures.words) refl)
 
 pub returns : goal.returns
-returns c = join-done _ _ (omega arith) c.word_at.ensures c.word_at-2.ensures c.word_at-3.ensures (c.answer_number.ensures ∙ c.take_join.ensures.number, c.take_join.ensures.words)
+returns c = join-done _ _ c.in_ok-first.ensures (c.in_ok-take_join.ensures.number, c.in_ok-take_join.ensures.words) refl

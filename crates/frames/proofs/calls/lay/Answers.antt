@@ -1,18 +1,23 @@
 -- `frames::calls::lay` meets its contract.
-use mathlib.Core.Path.{sym, ◌∙◌}
+use Rattle.std.proofs.Common.{refl, arith}
+use Rattle.std.proofs.lemmas.Result.{err_from_is_err_and}
 use lib.Seq.{length-take-le}
 use Rattle.frames.proofs.Carried.{lay-short, lay_incomplete, lay_done}
-use native.Mathlib.Omega.{arith}
 use Rattle.frames.proofs.calls.lay.Goals as goal
+use Rattle.frames.proofs.calls.lay.Goals.{then-bytes-lt8-via-then-bytes-lt8, then-bytes-lt8-via-else-bytes-lt8+then-bytes-ne0}
 
 pub returns-then-bytes-lt8 : goal.returns-then-bytes-lt8
-returns-then-bytes-lt8 c = lay-short _ _ c.if-bytes-lt8.true
+returns-then-bytes-lt8 c =
+    elim c.then-bytes-lt8.branch [
+      | then-bytes-lt8-via-then-bytes-lt8 w ↦ lay-short _ _ w.if-bytes-lt8.true
+      | then-bytes-lt8-via-else-bytes-lt8+then-bytes-ne0 w ↦ lay_incomplete _ _ w.if-bytes-ne0.true
+    ]
 
-pub returns-then-bytes-ne0 : goal.returns-then-bytes-ne0
-returns-then-bytes-ne0 c = lay_incomplete _ _ c.if-bytes-ne0.true
-
-pub slice_bounds-take_lay-end : goal.slice_bounds-take_lay-end
-slice_bounds-take_lay-end c = sym (length-take-le _ _ c.read_words-count.ensures.1)
+pub returns-in_err-take_lay : goal.returns-in_err-take_lay
+returns-in_err-take_lay c =
+    let p = err_from_is_err_and c.from_residual.result c.from_residual.ensures.1 in
+    rw (p.1, p.2)
+    (lay_done _ _ (omega arith) (omega arith) c.word32.ensures c.word32-2.ensures (length-take-le _ _ (omega arith)) c.read_words.ensures (c.in_err-take_lay.ensures.number, c.in_err-take_lay.ensures.words) refl)
 
 pub returns : goal.returns
-returns c = lay_done _ _ (omega arith) (omega arith) c.word_at.ensures c.word_at-2.ensures c.read_words-count.ensures.0 c.read_words-count.ensures.2 (c.answer_number.ensures ∙ c.take_lay.ensures.number, c.take_lay.ensures.words)
+returns c = lay_done _ _ (omega arith) (omega arith) c.word32.ensures c.word32-2.ensures (length-take-le _ _ (omega arith)) c.read_words.ensures (c.in_ok-take_lay.ensures.number, c.in_ok-take_lay.ensures.words) refl

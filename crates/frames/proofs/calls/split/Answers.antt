@@ -1,11 +1,18 @@
 -- `frames::calls::split` meets its contract.
-use mathlib.Core.Path.{◌∙◌}
+use Rattle.std.proofs.Common.{refl}
+use Rattle.std.proofs.lemmas.Result.{err_from_is_err_and}
 use Rattle.frames.proofs.Carried.{split_wrong, split_done}
-use native.Mathlib.Omega.{arith}
 use Rattle.frames.proofs.calls.split.Goals as goal
 
-pub returns-then-bytes-ne16 : goal.returns-then-bytes-ne16
-returns-then-bytes-ne16 c = split_wrong _ _ c.if-bytes-ne16.true
+pub returns-in_err-take : goal.returns-in_err-take
+returns-in_err-take c =
+    let p = err_from_is_err_and c.from_residual.result c.from_residual.ensures.1 in
+    rw (p.1, p.2) (split_wrong _ _ c.in_err-take.ensures)
+
+pub returns-in_err-take_split : goal.returns-in_err-take_split
+returns-in_err-take_split c =
+    let p = err_from_is_err_and c.from_residual-in_err-take_split.result c.from_residual-in_err-take_split.ensures.1 in
+    rw (p.1, p.2) (split_done _ _ c.in_ok-take.ensures (c.in_err-take_split.ensures.number, c.in_err-take_split.ensures.words) refl)
 
 pub returns : goal.returns
-returns c = split_done _ _ (omega arith) c.word_at.ensures c.word_at-2.ensures c.word_at-3.ensures c.word_at-4.ensures (c.answer_number.ensures ∙ c.take_split.ensures.number, c.take_split.ensures.words)
+returns c = split_done _ _ c.in_ok-take.ensures (c.in_ok-take_split.ensures.number, c.in_ok-take_split.ensures.words) refl

@@ -1,6 +1,0 @@
--- `frames::answers::put_number` meets its contract.
-use Rattle.frames.proofs.Dispatch.{put-line}
-use Rattle.frames.proofs.answers.put_number.Goals as goal
-
-pub returns : goal.returns
-returns c = put-line _ _ _ c.put_byte.ensures

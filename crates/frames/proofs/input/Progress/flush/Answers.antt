@@ -1,0 +1,11 @@
+-- `frames::input::Progress::flush` meets its contract.
+use Rattle.std.proofs.Common.{ap, ◌∙◌, length, refl, arith}
+use Rattle.frames.proofs.input.Progress.flush.Goals as goal
+
+pub returns : goal.returns
+returns c =
+    record {
+      count = c.send-sent.ensures ∙ ap length c.as_slice.ensures.bytes;
+      few = omega (arith, c.send-sent.ensures, ap length c.as_slice.ensures.bytes, c.as_slice.ensures.few);
+      emptied = rw c.clear.ensures refl;
+    }
