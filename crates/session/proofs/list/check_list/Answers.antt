@@ -40,6 +40,6 @@ returns-else-list-ne0 c =
 
 pub returns-else-not-note_follows : goal.returns-else-not-note_follows
 returns-else-not-note_follows c =
-    let next = checked-note _ _ _ c.loop-at.invariant c.loop-at-test.true c.note_at-note.ensures c.requires (sym c.note_ok.ensures ∙ c.if-not-note_ok.false) (sym c.note_follows.ensures ∙ c.if-not-note_follows.false) c.cell_count_by.ensures in
+    let next = checked-note _ _ _ c.loop-at.invariant c.loop-at-test.true c.note_at-note.ensures c.requires (sym c.note_ok.ensures ∙ c.if-not-note_ok.false) (sym c.note_follows.ensures ∙ c.if-not-note_follows.false) (c.cell_count.ensures ∙ ap (λ δ. length (cells_of_note δ c.note_at-note.result)) c.new-by.ensures) in
     let done = checked-done _ _ _ next (omega arith) in
     counted _ _ _ c.if-list-ne0.false done.0 _ done.1
