@@ -52,21 +52,22 @@ fn track_from(s: &[u8], from: usize) -> Result<Found, Question>
     ensures { place_of result ≡ chunk_place (track_after s.now from) }
 {
     let mut at = from;
-    'chunks: loop {
+    let question = 'chunks: loop {
         if s.len() - at < 8 {
-            return Err(Question::TrackReached);
+            break 'chunks Question::TrackReached;
         }
         let start = at + 8;
         let size = bytes::word32(s, at + 4) as usize;
         if s.len() - start < size {
-            return Err(Question::TrackReached);
+            break 'chunks Question::TrackReached;
         }
         let end = start + size;
         if bytes::word32(s, at) == bytes::MTRK {
             return Ok(Found { at: start, end });
         }
         at = end;
-    }
+    };
+    Err(question)
 }
 
 // Where the track of a file is, or the first question, 9 to 11, whose answer is no.
