@@ -2,7 +2,7 @@
 ghost use Rattle.std.specs.Prelude.{◌≡◌, ◌<◌, length, get_or};
 ghost use Rattle.words.specs.Splice.{splice};
 ghost use Rattle.events.specs.Windows.{window_bytes};
-ghost use Rattle.events.specs.Emitting.{start_of, events_of, events_to, Bounds, Noted, Ahead, BucketAhead};
+ghost use Rattle.events.specs.Emitting.{start_of, events_of, events_to, Bounds, Noted, Ahead, BucketAhead, Kept};
 
 use crate::{stored, windows};
 use order::tables::Tables;
@@ -39,7 +39,8 @@ fn put_bucket(
 // Writes the bytes of each bucket from `first` on to their place, the last bucket first: they start behind all events of earlier buckets.
 pub fn put_buckets(out: &mut [u8], width: u32, first: usize, tables: &mut Tables)
     requires { (first < 2048) × Bounds width tables.old.ends × Noted width first (get_or tables.old.starts first 0) (get_or tables.old.next first 0) tables.old.ends out.old tables.old.starts tables.old.next × Ahead width first (get_or tables.old.starts first 0) (get_or tables.old.next first 0) 2048 tables.old.ends out.old }
-    ensures { out.new ≡ splice out.old (get_or tables.old.starts first 0) (window_bytes (get_or tables.old.next first 0) (events_to width tables.old.ends out.old first 2048)) }
+    ensures bytes { out.new ≡ splice out.old (get_or tables.old.starts first 0) (window_bytes (get_or tables.old.next first 0) (events_to width tables.old.ends out.old first 2048)) }
+    ensures kept { Kept tables.old tables.new }
 {
     for v in (first..2048).rev() {
         put_bucket(

@@ -26,7 +26,8 @@ pub fn track_most(count: usize, end: u32) -> usize
 // How many bytes the events of n lanes take, with the end of track at tick `end`.
 pub fn length_left(notes: Notes, n: usize, tables: &mut Tables, end: u32) -> usize
     requires { TrackAsks notes n tables.old.starts tables.old.ends end × (length (track_left end 0 (events_left notes tables.old.starts tables.old.ends n)) ≤ 4294967295) }
-    ensures { result ≡ length (track_left end 0 (events_left notes.entry tables.old.starts tables.old.ends n)) }
+    ensures count { result ≡ length (track_left end 0 (events_left notes.entry tables.old.starts tables.old.ends n)) }
+    ensures kept { tables.new.ends ≡ tables.old.ends }
 {
     let mut left = 2 * notes.count;
     let mut from: u64 = 0;
@@ -55,7 +56,8 @@ pub fn put_left(
     start: usize,
 ) -> usize
     requires { TrackAsks notes n tables.old.starts tables.old.ends end × (start + length (track_left end 0 (events_left notes tables.old.starts tables.old.ends n)) ≤ length out.old) }
-    ensures { (result ≡ start + length (track_left end 0 (events_left notes.entry tables.old.starts tables.old.ends n))) × (out.new ≡ splice out.old start (track_left end 0 (events_left notes.entry tables.old.starts tables.old.ends n))) }
+    ensures bytes { (result ≡ start + length (track_left end 0 (events_left notes.entry tables.old.starts tables.old.ends n))) × (out.new ≡ splice out.old start (track_left end 0 (events_left notes.entry tables.old.starts tables.old.ends n))) }
+    ensures kept { tables.new.ends ≡ tables.old.ends }
 {
     let mut left = 2 * notes.count;
     let mut from: u64 = 0;

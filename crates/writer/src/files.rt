@@ -1,11 +1,8 @@
 // The file of a take, written into an output that it fits.
-ghost use Rattle.std.specs.Prelude.{◌≡◌, ℕ, ◌*◌, ◌≤◌, ◌<◌, length};
+ghost use Rattle.std.specs.Prelude.{◌≡◌, ◌≤◌, length};
 ghost use Rattle.words.specs.Splice.{splice};
-ghost use Rattle.order.specs.Notes.{events_of};
-ghost use Rattle.order.specs.Events.{end_at, Ordered};
 ghost use Rattle.model.specs.Limits.{max_delta};
 ghost use Rattle.midi.specs.Writing.{header_bytes};
-ghost use Rattle.buckets.specs.Plans.{Planned};
 ghost use Rattle.writer.specs.Files.{PartAsks, file_in, length_in, output_of};
 ghost use Rattle.writer.specs.Takes.{file};
 
@@ -31,16 +28,6 @@ pub fn put_header(out: &mut [u8], delta: u32, size: u32)
     bytes::put_word32(out, 18, size);
 }
 
-// Where the events of each bucket begin, unless a bucket has too many. The table is lent by itself: behind a reference to all of them it would not be
-// seen that it stays as long as it is.
-fn plan(notes: Notes, width: Divisor, ends: &mut [u32; 2048]) -> bool
-    requires { Ordered notes.words.now notes.count × (width.delta ≤ 8192) × ((i : ℕ) → i < notes.count → end_at notes.words.now i < 2048 * width.delta) × (notes.count < 1048576) }
-    ensures planned { Planned result width.delta (events_of notes.entry) ends.new }
-    ensures long { length ends.new ≡ 2048 }
-{
-    buckets::plan(notes, width, ends)
-}
-
 // The file of a take, if it fits the output. Returns its length. The events are taken window by window, or where the lanes are many, bucket by
 // bucket in the output itself. The tables are lent to the way that is taken.
 fn put_lent(take: Take, tables: &mut Tables, out: &mut [u8]) -> Option<usize>
@@ -48,7 +35,7 @@ fn put_lent(take: Take, tables: &mut Tables, out: &mut [u8]) -> Option<usize>
 {
     if let Some(ticks) = wide::bucket_ticks(take.notes, take.end(), out.len()) {
         let width = Divisor::new(ticks);
-        if plan(take.notes, width, &mut tables.ends) {
+        if buckets::plan(take.notes, width, &mut tables.ends) {
             return Some(wide::put_wide(take, width, tables, out));
         }
     }

@@ -16,7 +16,7 @@ loop-v-preserved c =
     (emitting_next s.1 s.2 (omega arith) (emitting_at _ (omega arith) i.0) (rw (i.1.starts, i.1.ends, i.1.next) at c.put_bucket.ensures.bytes), record { starts = i.1.starts; ends = i.1.ends; next = i.1.next })
 
 pub returns : goal.returns
-returns c = emitting_over (omega arith) c.loop-v.invariant.0
+returns c = record { bytes = emitting_over (omega arith) c.loop-v.invariant.0; kept = c.loop-v.invariant.1 }
 
 pub invariant_of-tables : goal.invariant_of-tables
 invariant_of-tables c = let l = c.loop-v.tables.long in record { long = (l.0, l.1, l.2, c.put_bucket.ensures.long, l.4, l.5) }

@@ -24,4 +24,4 @@ loop-left-preserved c =
     (counting_more i.0 w (search rules) _ _ _ c.loop-left-test.true c.window_length-r.ensures.0 c.window_length-r.ensures.1 c.next_width-width.ensures, c.take_window-w.ensures.kept ∙ i.1)
 
 pub returns : goal.returns
-returns c = omega (arith, counting_over c.loop-left.invariant.0 c.loop-left-test.false, c.group_count.ensures)
+returns c = record { count = omega (arith, counting_over c.loop-left.invariant.0 c.loop-left-test.false, c.group_count.ensures); kept = c.loop-left.invariant.1 }

@@ -27,4 +27,9 @@ pub put_end-requires : goal.put_end-requires
 put_end-requires c = let i = c.loop-left.invariant.0 in (omega (arith, c.requires.0.short), omega (arith, counting_over i.counting c.loop-left-test.false, i.long, c.requires.1))
 
 pub returns : goal.returns
-returns c = let i = c.loop-left.invariant.0 in (omega (arith, counting_over i.counting c.loop-left-test.false, c.put_end.ensures.0), putting_over i c.loop-left-test.false c.put_end.ensures.1)
+returns c =
+    let i = c.loop-left.invariant.0 in
+    record {
+      bytes = (omega (arith, counting_over i.counting c.loop-left-test.false, c.put_end.ensures.0), putting_over i c.loop-left-test.false c.put_end.ensures.1);
+      kept = c.loop-left.invariant.1;
+    }

@@ -19,8 +19,8 @@ length_left-length-requires c =
 pub overflow_add-result : goal.overflow_add-result
 overflow_add-result c =
     let p = c.args.take.sound in
-    let l = rw c.end-end.ensures at c.length_left-length.ensures in
+    let l = rw c.end-end.ensures at c.length_left-length.ensures.count in
     omega (arith, left-short p c.runs-n.ensures.0.all, l, p.few)
 
 pub returns : goal.returns
-returns c = counted_fits c.args.take.sound c.runs-n.ensures.0.all _ (rw c.end-end.ensures at c.length_left-length.ensures)
+returns c = counted_fits c.args.take.sound c.runs-n.ensures.0.all _ (rw c.end-end.ensures at c.length_left-length.ensures.count)

@@ -16,17 +16,17 @@ put_left-behind-requires c =
 pub overflow_cast-behind : goal.overflow_cast-behind
 overflow_cast-behind c =
     let p = c.args.take.sound in
-    let t = rw c.end.ensures at c.put_left-behind.ensures in
+    let t = rw c.end.ensures at c.put_left-behind.ensures.bytes in
     omega (arith, left-short p c.runs-n.ensures.0.all, t.0, p.few)
 
 pub put_header-requires : goal.put_header-requires
 put_header-requires c =
     let p = c.args.take.sound in
-    let t = rw c.end.ensures at c.put_left-behind.ensures in
+    let t = rw c.end.ensures at c.put_left-behind.ensures.bytes in
     (p.delta_low, header-room p c.runs-n.ensures.0.all _ (sym c.fits.ensures ∙ c.if-not-fits.false) t.1)
 
 pub returns : goal.returns
 returns c =
     let p = c.args.take.sound in
-    let t = rw c.end.ensures at c.put_left-behind.ensures in
+    let t = rw c.end.ensures at c.put_left-behind.ensures.bytes in
     file-put p c.runs-n.ensures.0.all _ (sym c.fits.ensures ∙ c.if-not-fits.false) t.0 t.1 c.put_header.ensures
