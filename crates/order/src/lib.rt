@@ -2,18 +2,16 @@
 // Each lane's events are in order already, so that those of a window of time are the first ones of each lane.
 #![tactic(auto)]
 
-ghost use Rattle.std.specs.Prelude.{◌≡◌, ◌*◌, ◌≤◌, ◌<◌, length};
+ghost use Rattle.std.specs.Prelude.{◌≡◌, ◌*◌, ◌≤◌, ◌<◌, length, take};
 ghost use Rattle.order.specs.Events.{event, velocity_of, Ordered};
 ghost use Rattle.order.specs.Notes.{events_of};
 ghost use Rattle.order.specs.Runs.{Run, Split};
 
 pub mod notes;
-pub mod tables;
 pub mod taking;
 pub mod windows;
 
 use notes::Notes;
-use tables::Tables;
 
 // An event's number: kind 0 is an end, 1 a start. It is computed from the kind's number, so that no branch waits for the kind.
 fn number(tick: u32, kind: u64, lane: u32, velocity: u32) -> u64
@@ -32,10 +30,11 @@ fn velocity_at(odd: usize, velocity: u32) -> u32
 
 // Writes the events of all notes, each note's start and then its end.
 pub fn put_all(notes: Notes, a: &mut [u64])
-    requires { length a.old ≡ 2 * notes.count }
-    ensures { a.new ≡ events_of notes.entry }
+    requires { 2 * notes.count ≤ length a.old }
+    ensures { take (2 * notes.entry.count) a.new ≡ events_of notes.entry }
 {
-    for (e, event) in a.iter_mut().enumerate() {
+    let events = &mut a[..2 * notes.count];
+    for (e, event) in events.iter_mut().enumerate() {
         *event = notes.event_at(e);
     }
 }
@@ -55,16 +54,16 @@ fn run_end(notes: Notes, from: usize, lane: usize) -> usize
 
 // Where the events of each lane that has notes begin and end, in the order of the lanes. Returns how many lanes these are. Each turn passes all notes
 // of a lane, so that the loop counts by itself.
-pub fn runs(notes: Notes, t: &mut Tables) -> usize
-    requires { Ordered notes.words.now notes.count }
-    ensures { Split notes.entry.words.now notes.entry.count t.new.starts t.new.ends result × (result ≤ 2048) × (t.new.next ≡ t.old.next) × (t.new.a ≡ t.old.a) × (t.new.b ≡ t.old.b) × (t.new.places ≡ t.old.places) }
+pub fn runs(notes: Notes, starts: &mut [u32], ends: &mut [u32]) -> usize
+    requires { Ordered notes.words.now notes.count × (2048 ≤ length starts.old) × (2048 ≤ length ends.old) }
+    ensures { Split notes.entry.words.now notes.entry.count starts.new ends.new result × (result ≤ 2048) }
 {
     let mut i: usize = 0;
     let mut l: usize = 0;
     while i < notes.count {
         let r = run_end(notes, i, notes.words[4 * i] as usize);
-        t.starts[l] = (2 * i) as u32;
-        t.ends[l] = (2 * r) as u32;
+        starts[l] = (2 * i) as u32;
+        ends[l] = (2 * r) as u32;
         i = r;
         l += 1;
     }

@@ -4,4 +4,4 @@ use Rattle.order.specs.Whole.{Put}
 use Rattle.order.proofs.put_all.Given as goal
 
 abbrev pub invariant-loop-e : goal.invariant-loop-e
-invariant-loop-e l = Put (events_of l.notes) l.initial.a l.a l.e
+invariant-loop-e l = Put (events_of l.notes) l.initial.events l.events l.e
