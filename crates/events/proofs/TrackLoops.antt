@@ -10,7 +10,7 @@ use Rattle.order.specs.Queues.{Queues, merged}
 use Rattle.order.specs.declared.notes.Notes.{Notes}
 use Rattle.order.specs.Notes.{events_of}
 use Rattle.order.specs.Windows.{From, from_small}
-use Rattle.order.specs.Taking.{Width, Taken}
+use Rattle.order.specs.Taking.{Width, TakeAsks, Taken}
 use Rattle.midi.specs.Numbers.{quantity_bytes}
 use Rattle.midi.specs.Writing.{end_of_track}
 use Rattle.events.specs.Tracks.{track_left, events_left, Timed, TrackAsks}
@@ -32,6 +32,9 @@ pub record Left (keys ends : List ℕ) (n end : ℕ) (pos : List ℕ) (left from
 module _ {keys ends : List ℕ} {n end : ℕ} {pos : List ℕ} {left from width tick : ℕ} (l : Left keys ends n end pos left from width tick) where
   pub left_early : 0 < left → from < 268435456
   left_early h = from_small l.queues l.behind (omega (arith, l.count))
+
+  pub window_asks : {to a : List ℕ} → 0 < left → n ≤ 2048 → n ≤ length to → 2048 ≤ length a → TakeAsks keys pos ends to a n from width
+  window_asks some lanes room here = record { queues = l.queues; lanes = lanes; room = room; here = here; behind = l.behind; early = left_early some; wide = l.wide }
 
   pub left-within : tick ≤ end
   left-within = timed_within l.timed
@@ -132,7 +135,7 @@ module _ {keys ends : List ℕ} {n end : ℕ} {out₀ : List ℕ} {start : ℕ} 
 
 -- ---- the beginning
 
-module _ {notes : Notes} {n : ℕ} {pos ends : List ℕ} {end : ℕ} (w : TrackAsks notes n pos ends end) where
+module _ {notes : Notes} {n : ℕ} {pos ends to a b places : List ℕ} {end : ℕ} (w : TrackAsks notes n pos ends to a b places end) where
   left-start : (width : ℕ) → Width width → Left (events_of notes) ends n end pos (2 * notes.count) 0 width 0
   left-start width v =
       record {

@@ -1,7 +1,6 @@
 -- The events that stand in an output, bucket by bucket, and what writing their bytes asks. Assumes nothing.
 use Rattle.std.specs.Prelude.{◌≡◌, List, [], ◌∷◌, ℕ, zero, suc, ◌+◌, ◌-◌, ◌*◌, ◌≤◌, ◌<◌, length, get_or}
 use Rattle.radix.specs.Parts.{joined}
-use Rattle.order.specs.declared.tables.Tables.{Tables}
 use Rattle.midi.specs.Numbers.{word32}
 use Rattle.buckets.specs.Buckets.{base}
 use Rattle.events.specs.Tracks.{Timed}
@@ -29,11 +28,12 @@ span f first v = joined (λ n. f (first + n)) (v - first)
 abbrev pub events_to : ℕ → List ℕ → List ℕ → ℕ → ℕ → List ℕ
 events_to width ends out first v = span (events_of width ends out) first v
 
--- What is noted of the lanes or the buckets is as it was; the room to sort may have changed.
-pub record Kept (old new : Tables) : Type 0 where
-  pub starts : new.starts ≡ old.starts
-  pub ends : new.ends ≡ old.ends
-  pub next : new.next ≡ old.next
+-- Room for what is noted of each bucket, and for the events of one.
+pub record Tables (ends a starts ticks : List ℕ) : Type 0 where
+  pub limits : 2048 ≤ length ends
+  pub here : 2048 ≤ length a
+  pub places : 2048 ≤ length starts
+  pub times : 2048 ≤ length ticks
 
 -- Buckets of so few ticks that their events are numbers of the code, and of so few events that a table holds them.
 pub record Bounds (width : ℕ) (ends : List ℕ) : Type 0 where

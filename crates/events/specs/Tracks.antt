@@ -25,10 +25,14 @@ abbrev pub events_left : Notes → List ℕ → List ℕ → ℕ → List ℕ
 events_left notes pos ends n = merged (events_of notes) pos ends n
 
 -- What writing the events of n lanes asks: the lanes' events, all those of the notes, up to the end of track.
-pub record TrackAsks (notes : Notes) (n : ℕ) (pos ends : List ℕ) (end : ℕ) : Type 0 where
+pub record TrackAsks (notes : Notes) (n : ℕ) (pos ends to a b places : List ℕ) (end : ℕ) : Type 0 where
   pub few : notes.count < 1048576
   pub queues : Queues (events_of notes) pos ends n
   pub all : length (events_left notes pos ends n) ≡ 2 * notes.count
   pub timed : Timed end 0 (events_left notes pos ends n)
   pub short : end < 268435456
   pub lanes : n ≤ 2048
+  pub room : n ≤ length to
+  pub here : 2048 ≤ length a
+  pub there : 2048 ≤ length b
+  pub table : 2048 ≤ length places

@@ -3,12 +3,10 @@
 ghost use Rattle.std.specs.Prelude.{◌≡◌, Option, true, ◌+◌, ◌*◌, ◌≤◌, ◌<◌, length};
 ghost use Rattle.events.specs.Tracks.{Timed};
 ghost use Rattle.events.specs.Windows.{window_bytes, longest};
-ghost use Rattle.events.specs.Emitting.{Kept};
-ghost use Rattle.events.specs.Bucketing.{BucketAsks, BucketsAsk};
+ghost use Rattle.events.specs.Bucketing.{SortRoom, BucketAsks, BucketsAsk};
 ghost use Rattle.events.specs.Tight.{OneBucket, TightBucket, TightPut};
 
 use crate::{bucketing, windows};
-use order::tables::Tables;
 
 // Where writing has come to: the first bucket whose events still stand in the output, the place for its bytes and the tick of the event before it.
 #[derive(Drop)]
@@ -38,14 +36,13 @@ fn put_tight_bucket(
     v: usize,
     from: usize,
     upto: usize,
-    a: &mut [u64; 2048],
-    b: &mut [u64; 2048],
-    places: &mut [u16; 2048],
+    a: &mut [u64],
+    b: &mut [u64],
+    places: &mut [u16],
     tick: u32,
 ) -> Option<u32>
-    requires { BucketAsks width v from upto (22 + 4 * from) tick out.old }
-    ensures put { TightBucket width v from upto tick out.old out.new result }
-    ensures long { (length a.new ≡ 2048) × (length b.new ≡ 2048) × (length places.new ≡ 2048) }
+    requires { BucketAsks width v from upto (22 + 4 * from) tick out.old × SortRoom a.old b.old places.old }
+    ensures { TightBucket width v from upto tick out.old out.new result }
 {
     let at = 22 + 4 * from;
     let end = 22 + 4 * upto;
@@ -65,27 +62,24 @@ fn put_tight_bucket(
 
 // Writes the bytes of the first buckets over their events, as long as each event takes four bytes. Returns where it has come to. The last bucket is
 // left in any case, so that there is always one whose place is noted for those who go on.
-pub fn put_tight(out: &mut [u8], width: u32, tables: &mut Tables) -> Front
-    requires { BucketsAsk width 0 22 0 tables.old.ends out.old }
-    ensures put { TightPut width tables.old.ends out.old out.new result.bucket result.at result.tick }
-    ensures kept { Kept tables.old tables.new }
+pub fn put_tight(
+    out: &mut [u8],
+    width: u32,
+    ends: &[u32],
+    a: &mut [u64],
+    b: &mut [u64],
+    places: &mut [u16],
+) -> Front
+    requires { BucketsAsk width 0 22 0 ends.now out.old × (2048 ≤ length ends.now) × SortRoom a.old b.old places.old }
+    ensures { TightPut width ends.now out.old out.new result.bucket result.at result.tick }
 {
-    let all = tables.ends[2047];
+    let all = ends[2047];
     let mut from: usize = 0;
     let mut tick: u32 = 0;
     for v in 0..2047 {
-        let upto = tables.ends[v];
-        let Some(last) = put_tight_bucket(
-            out,
-            width,
-            v,
-            from,
-            upto as usize,
-            &mut tables.a,
-            &mut tables.b,
-            &mut tables.places,
-            tick,
-        ) else {
+        let upto = ends[v];
+        let Some(last) = put_tight_bucket(out, width, v, from, upto as usize, a, b, places, tick)
+        else {
             return Front {
                 bucket: v,
                 at: 22 + 4 * from,

@@ -6,7 +6,6 @@ ghost use Rattle.events.specs.Tracks.{track_left, track_most, events_left, Track
 
 use crate::windows;
 use order::notes::Notes;
-use order::tables::Tables;
 use order::taking;
 use track::putting;
 
@@ -24,10 +23,19 @@ pub fn track_most(count: usize, end: u32) -> usize
 }
 
 // How many bytes the events of n lanes take, with the end of track at tick `end`.
-pub fn length_left(notes: Notes, n: usize, tables: &mut Tables, end: u32) -> usize
-    requires { TrackAsks notes n tables.old.starts tables.old.ends end × (length (track_left end 0 (events_left notes tables.old.starts tables.old.ends n)) ≤ 4294967295) }
-    ensures count { result ≡ length (track_left end 0 (events_left notes.entry tables.old.starts tables.old.ends n)) }
-    ensures kept { tables.new.ends ≡ tables.old.ends }
+pub fn length_left(
+    notes: Notes,
+    n: usize,
+    starts: &mut [u32],
+    ends: &[u32],
+    next: &mut [u32],
+    a: &mut [u64],
+    b: &mut [u64],
+    places: &mut [u16],
+    end: u32,
+) -> usize
+    requires { TrackAsks notes n starts.old ends.now next.old a.old b.old places.old end × (length (track_left end 0 (events_left notes starts.old ends.now n)) ≤ 4294967295) }
+    ensures { result ≡ length (track_left end 0 (events_left notes.entry starts.old ends.now n)) }
 {
     let mut left = 2 * notes.count;
     let mut from: u64 = 0;
@@ -35,8 +43,8 @@ pub fn length_left(notes: Notes, n: usize, tables: &mut Tables, end: u32) -> usi
     let mut at: usize = 0;
     let mut tick: u32 = 0;
     while 0 < left {
-        let w = taking::take_window(notes, n, tables, from, width);
-        let r = windows::window_length(&tables.a[..w.count], at, tick);
+        let w = taking::take_window(notes, n, starts, ends, next, a, b, places, from, width);
+        let r = windows::window_length(&a[..w.count], at, tick);
         at = r.at;
         tick = r.tick;
         left -= w.count;
@@ -50,14 +58,18 @@ pub fn length_left(notes: Notes, n: usize, tables: &mut Tables, end: u32) -> usi
 pub fn put_left(
     notes: Notes,
     n: usize,
-    tables: &mut Tables,
+    starts: &mut [u32],
+    ends: &[u32],
+    next: &mut [u32],
+    a: &mut [u64],
+    b: &mut [u64],
+    places: &mut [u16],
     end: u32,
     out: &mut [u8],
     start: usize,
 ) -> usize
-    requires { TrackAsks notes n tables.old.starts tables.old.ends end × (start + length (track_left end 0 (events_left notes tables.old.starts tables.old.ends n)) ≤ length out.old) }
-    ensures bytes { (result ≡ start + length (track_left end 0 (events_left notes.entry tables.old.starts tables.old.ends n))) × (out.new ≡ splice out.old start (track_left end 0 (events_left notes.entry tables.old.starts tables.old.ends n))) }
-    ensures kept { tables.new.ends ≡ tables.old.ends }
+    requires { TrackAsks notes n starts.old ends.now next.old a.old b.old places.old end × (start + length (track_left end 0 (events_left notes starts.old ends.now n)) ≤ length out.old) }
+    ensures { (result ≡ start + length (track_left end 0 (events_left notes.entry starts.old ends.now n))) × (out.new ≡ splice out.old start (track_left end 0 (events_left notes.entry starts.old ends.now n))) }
 {
     let mut left = 2 * notes.count;
     let mut from: u64 = 0;
@@ -65,8 +77,8 @@ pub fn put_left(
     let mut at = start;
     let mut tick: u32 = 0;
     while 0 < left {
-        let w = taking::take_window(notes, n, tables, from, width);
-        let r = windows::put_window(out, at, tick, &tables.a[..w.count]);
+        let w = taking::take_window(notes, n, starts, ends, next, a, b, places, from, width);
+        let r = windows::put_window(out, at, tick, &a[..w.count]);
         at = r.at;
         tick = r.tick;
         left -= w.count;

@@ -1,5 +1,4 @@
 -- `events::tracks::length_left` meets its contract.
-use mathlib.Core.Path.{◌≡◌}
 use Prim.Native.Nat.{◌+◌, ◌-◌}
 use lib.ListN.{length}
 use Rattle.order.specs.Notes.{events_of}
@@ -9,9 +8,7 @@ use Rattle.events.proofs.tracks.length_left.Given as goal
 
 abbrev pub invariant-loop-left : goal.invariant-loop-left
 invariant-loop-left l =
-    let t = l.initial.tables in
-    Counting (events_of l.notes) t.ends l.n l.end (l.initial.at + length (track_left l.end 0 (events_left l.notes t.starts t.ends l.n))) l.tables.starts l.left l.from l.width l.at l.tick
-    × (l.tables.ends ≡ t.ends)
+    Counting (events_of l.notes) l.ends l.n l.end (l.initial.at + length (track_left l.end 0 (events_left l.notes l.initial.starts l.ends l.n))) l.starts l.left l.from l.width l.at l.tick
 
 abbrev pub decreases-loop-left : goal.decreases-loop-left
 decreases-loop-left l =
