@@ -2,4 +2,5 @@
 pub mod Counting
 pub mod Putting
 pub mod Outputs
+pub mod Tables
 pub mod Plans
