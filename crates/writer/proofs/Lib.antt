@@ -2,7 +2,7 @@
 pub mod Keys
 pub mod Shelves
 pub mod Written
-pub mod Tables
+pub mod FewNotes
 pub mod Ranked
 pub mod Parts
 pub mod InPlace

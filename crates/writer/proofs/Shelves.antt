@@ -5,7 +5,7 @@ use Prim.Native.Nat.{ℕ, suc, ◌*◌, ◌≤◌, ◌<◌}
 use native.Mathlib.Nat.{mul-le-mul_right}
 use native.Mathlib.Omega.{arith}
 use lib.Dec.{leb}
-use lib.ListN.{get_or}
+use lib.ListN.{length, get_or}
 use borrow.Author.Tests.{leb-true}
 use Rattle.radix.specs.Sort as S
 use Rattle.order.specs.Events.{end_at, events, Follows, Follows.lanes, Follows.ticks, Ordered, length-events}
@@ -145,8 +145,9 @@ module _ {s : List ℕ} {count δ beats : ℕ} (a : FileAsks s count δ beats) w
 
 -- a take's
 module _ (take : Take) where
-  pub track_asks : {pos ends : List ℕ} {n : ℕ} → Split take.notes.words.now take.notes.count pos ends n → n ≤ 2048 → TrackAsks take.notes n pos ends (take.beats * take.delta)
-  track_asks w l =
+  pub track_asks : {pos ends to a b places : List ℕ} {n : ℕ} → Split take.notes.words.now take.notes.count pos ends n → n ≤ 2048
+      → 2048 ≤ length to → 2048 ≤ length a → 2048 ≤ length b → 2048 ≤ length places → TrackAsks take.notes n pos ends to a b places (take.beats * take.delta)
+  track_asks w l room here there table =
       let a = take.sound in
       record {
         few = a.few;
@@ -155,4 +156,8 @@ module _ (take : Take) where
         timed = rw w.all (timed a);
         short = omega (arith, end_short a);
         lanes = l;
+        room = omega arith;
+        here = here;
+        there = there;
+        table = table;
       }

@@ -1,6 +1,8 @@
 // The file of few notes: all their events stand in one table, and are put in order there.
 ghost use Rattle.std.specs.Prelude.{◌≡◌, ◌+◌, ◌*◌, ◌≤◌, leb, length};
 ghost use Rattle.words.specs.Splice.{splice};
+ghost use Rattle.radix.specs.Sort.{sort};
+ghost use Rattle.order.specs.Notes.{events_of};
 ghost use Rattle.events.specs.Tracks.{track_left};
 ghost use Rattle.events.specs.Windows.{TableAsks};
 ghost use Rattle.writer.specs.Files.{length_in, output_of};
@@ -40,6 +42,16 @@ struct Room {
     places: [u16; 2048],
 }
 
+// Puts the events of the notes in order into a list just as long; b and places are room to work in.
+fn put_sorted(take: Take, events: &mut [u64], b: &mut [u64], places: &mut [u16])
+    requires few { (take.notes.count ≤ 1024) × (take.beats * take.delta ≤ 2097151) }
+    requires room { (length events.old ≡ 2 * take.notes.count) × (length events.old ≤ length b.old) × (2048 ≤ length places.old) }
+    ensures { events.new ≡ sort (events_of take.entry.notes) }
+{
+    order::put_all(take.notes, events);
+    radix::sort(events, b, places, 0, 2 * (take.end() as u64) + 2);
+}
+
 // The file of a take, if it fits the output, with tables that are lent. Returns its length.
 fn put_lent(
     take: Take,
@@ -52,10 +64,8 @@ fn put_lent(
     ensures { (result ≡ length_in (file take.entry) out.old) × (out.new ≡ output_of (file take.entry) out.old) }
 {
     let end = take.end();
-    let m = 2 * take.notes.count;
-    let events = &mut a[..m];
-    order::put_all(take.notes, events);
-    radix::sort(events, &mut b[..m], places, 0, 2 * (end as u64) + 2);
+    let events = &mut a[..2 * take.notes.count];
+    put_sorted(take, events, b, places);
     if !fits(events, end, out.len()) {
         return None;
     }

@@ -6,11 +6,11 @@ ghost use Rattle.midi.specs.Writing.{header_bytes};
 ghost use Rattle.writer.specs.Files.{PartAsks, file_in, length_in, output_of};
 ghost use Rattle.writer.specs.Takes.{file};
 
+use crate::tables::Tables;
 use crate::take::Take;
 use crate::{dense, few, many, wide};
 use model::Header;
 use order::notes::Notes;
-use order::tables::Tables;
 use session::beats::Divisor;
 use track::bytes;
 
@@ -47,15 +47,7 @@ fn put_lent(take: Take, tables: &mut Tables, out: &mut [u8]) -> Option<usize>
 fn put_long_file(take: Take, out: &mut [u8]) -> Option<usize>
     ensures { (result ≡ length_in (file take.entry) out.old) × (out.new ≡ output_of (file take.entry) out.old) }
 {
-    let mut tables = Tables {
-        starts: [0; 2048],
-        ends: [0; 2048],
-        next: [0; 2048],
-        a: [0; 2048],
-        b: [0; 2048],
-        places: [0; 2048],
-    };
-    put_lent(take, &mut tables, out)
+    put_lent(take, &mut Tables::new(), out)
 }
 
 // The file of a take, if it fits the output. Returns its length. The events of few notes stand in one table, which is less to clear than the tables

@@ -5,5 +5,6 @@ pub mod dense;
 pub mod few;
 pub mod files;
 pub mod many;
+mod tables;
 pub mod take;
 pub mod wide;

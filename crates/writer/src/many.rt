@@ -4,9 +4,9 @@ ghost use Rattle.writer.specs.Files.{length_in, output_of};
 ghost use Rattle.writer.specs.Takes.{file};
 
 use crate::files;
+use crate::tables::Tables;
 use crate::take::Take;
 use events::tracks;
-use order::tables::Tables;
 
 // Does the file fit so many bytes? Its events are counted only where the bound of its track does not show it.
 fn fits(take: Take, tables: &mut Tables, room: usize) -> bool
@@ -16,20 +16,41 @@ fn fits(take: Take, tables: &mut Tables, room: usize) -> bool
     if 22 + tracks::track_most(take.notes.count, end) <= room {
         return true;
     }
-    let n = order::runs(take.notes, tables);
-    let length = tracks::length_left(take.notes, n, tables, end);
+    let Tables {
+        starts,
+        ends,
+        next,
+        a,
+        b,
+        places,
+        ..
+    } = tables;
+    let n = order::runs(take.notes, starts, ends);
+    let length = tracks::length_left(take.notes, n, starts, ends, next, a, b, places, end);
     22 + length <= room
 }
 
 // The file of a take, if it fits the output. Returns its length.
-pub fn put_many(take: Take, tables: &mut Tables, out: &mut [u8]) -> Option<usize>
+pub(crate) fn put_many(take: Take, tables: &mut Tables, out: &mut [u8]) -> Option<usize>
     ensures { (result ≡ length_in (file take.entry) out.old) × (out.new ≡ output_of (file take.entry) out.old) }
 {
     if !fits(take, tables, out.len()) {
         return None;
     }
-    let n = order::runs(take.notes, tables);
-    let behind = tracks::put_left(take.notes, n, tables, take.end(), out, 22);
+    let end = take.end();
+    let Tables {
+        starts,
+        ends,
+        next,
+        a,
+        b,
+        places,
+        ..
+    } = tables;
+    let n = order::runs(take.notes, starts, ends);
+    let behind = tracks::put_left(
+        take.notes, n, starts, ends, next, a, b, places, end, out, 22,
+    );
     files::put_header(out, take.delta, (behind - 22) as u32);
     Some(behind)
 }

@@ -3,7 +3,7 @@ use mathlib.Core.Path.{ap}
 use Prim.Native.Nat.{ℕ}
 use native.Mathlib.Omega.{arith}
 use lib.Dec.{leb}
-use Rattle.writer.proofs.Tables.{table_timed, table_last, table_length, table_count}
+use Rattle.writer.proofs.FewNotes.{table_timed, table_last, table_length, table_count}
 use Rattle.writer.proofs.few.fits.Goals as goal
 
 pub window_length-reached-requires : goal.window_length-reached-requires

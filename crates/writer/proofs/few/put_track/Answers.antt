@@ -1,7 +1,7 @@
 -- `writer::few::put_track` meets its contract.
 use mathlib.Core.Path.{refl, ◌∙◌}
 use native.Mathlib.Omega.{arith}
-use Rattle.writer.proofs.Tables.{table_timed, table_last, table_length, table_count, table_end, table_put}
+use Rattle.writer.proofs.FewNotes.{table_timed, table_last, table_length, table_count, table_end, table_put}
 use Rattle.writer.proofs.few.put_track.Goals as goal
 
 pub put_window-reached-requires : goal.put_window-reached-requires

@@ -6,27 +6,28 @@ use Rattle.writer.proofs.Written.{left-short, left-room, header-room, file-put}
 use Rattle.writer.proofs.many.put_many.Goals as goal
 
 pub runs-n-requires : goal.runs-n-requires
-runs-n-requires c = ordered c.args.take.sound
+runs-n-requires c = let l = c.fits.new.tables.long in (ordered c.args.take.sound, omega (arith, l.0), omega (arith, l.1))
 
 pub put_left-behind-requires : goal.put_left-behind-requires
 put_left-behind-requires c =
     let r = c.runs-n.ensures in
-    rw c.end.ensures (track_asks c.args.take r.0 r.1, left-room c.args.take.sound r.0.all c.args.out.now (sym c.fits.ensures ∙ c.if-not-fits.false))
+    let l = c.fits.new.tables.long in
+    rw c.end-end.ensures (track_asks c.args.take r.0 r.1 (omega (arith, l.2)) (omega (arith, l.3)) (omega (arith, l.4)) (omega (arith, l.5)), left-room c.args.take.sound r.0.all c.args.out.now (sym c.fits.ensures ∙ c.if-not-fits.false))
 
 pub overflow_cast-behind : goal.overflow_cast-behind
 overflow_cast-behind c =
     let p = c.args.take.sound in
-    let t = rw c.end.ensures at c.put_left-behind.ensures.bytes in
+    let t = rw c.end-end.ensures at c.put_left-behind.ensures in
     omega (arith, left-short p c.runs-n.ensures.0.all, t.0, p.few)
 
 pub put_header-requires : goal.put_header-requires
 put_header-requires c =
     let p = c.args.take.sound in
-    let t = rw c.end.ensures at c.put_left-behind.ensures.bytes in
+    let t = rw c.end-end.ensures at c.put_left-behind.ensures in
     (p.delta_low, header-room p c.runs-n.ensures.0.all _ (sym c.fits.ensures ∙ c.if-not-fits.false) t.1)
 
 pub returns : goal.returns
 returns c =
     let p = c.args.take.sound in
-    let t = rw c.end.ensures at c.put_left-behind.ensures.bytes in
+    let t = rw c.end-end.ensures at c.put_left-behind.ensures in
     file-put p c.runs-n.ensures.0.all _ (sym c.fits.ensures ∙ c.if-not-fits.false) t.0 t.1 c.put_header.ensures
