@@ -5,7 +5,7 @@ use Rattle.writer.proofs.Ranked.{ranks_keyed, planned_last, planned_short, dense
 use Rattle.writer.proofs.dense.put_dense.Goals as goal
 
 pub plan-ticks-requires : goal.plan-ticks-requires
-plan-ticks-requires c = ranks_keyed c.args.take.sound c.requires
+plan-ticks-requires c = (ranks_keyed c.args.take.sound c.requires, omega arith)
 
 pub overflow_sub-time : goal.overflow_sub-time
 overflow_sub-time c = omega (arith, planned_last c.args.take.sound c.requires c.plan-ticks.ensures, c.end.ensures)
@@ -14,7 +14,7 @@ pub put_events-requires : goal.put_events-requires
 put_events-requires c =
     let p = c.args.take.sound in
     let w = c.plan-ticks.ensures in
-    (ranks_keyed p c.requires, omega (arith, c.if-out-length.false), w.first, planned_short p c.requires w (omega (arith, c.if-ticks-gt127.false)))
+    (ranks_keyed p c.requires, omega (arith, c.if-out-length.false), w.first, planned_short p c.requires w (omega (arith, c.if-ticks-gt127.false)), omega arith)
 
 pub put_end-requires : goal.put_end-requires
 put_end-requires c =

@@ -7,13 +7,10 @@ pub plan-requires : goal.plan-requires
 plan-requires c =
     let p = c.args.take.sound in
     let w = c.in-Some.ensures in
-    rw c.new-width.ensures (ordered p, w.most, λ i h. omega (arith, ends_within p i h, w.late, c.end.ensures), p.few)
+    rw c.new-width.ensures (ordered p, w.most, λ i h. omega (arith, ends_within p i h, w.late, c.end.ensures), p.few, omega arith)
 
 pub put_wide-requires : goal.put_wide-requires
 put_wide-requires c =
-    let n = c.plan.ensures.planned in
+    let n = c.plan.ensures in
     let w = rw c.end.ensures at c.in-Some.ensures in
     record { fair = n.fair c.if-plan.true; places = n.places c.if-plan.true; fits = w.fits }
-
-pub invariant_of-tables : goal.invariant_of-tables
-invariant_of-tables c = let l = c.args.tables.now.long in record { long = (l.0, c.plan.ensures.long, l.2, l.3, l.4, l.5) }
