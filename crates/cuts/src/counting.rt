@@ -9,7 +9,7 @@ ghost use Rattle.session.specs.Reading.{last_cells};
 ghost use Rattle.cuts.specs.Counting.{count_of, pair_at, run_cells, RunAhead, RunAt, SeamsAsks, CountsAsks, counted_words, FitAsks};
 
 use crate::halves::Contents;
-use crate::lasts::Cells;
+use crate::lasts::LastCells;
 use crate::{halves, joined, seam};
 use model::{Cell, Header};
 use session::{notes, rules};
@@ -42,12 +42,12 @@ fn pair_count(h: Header, beats: u32, c: Cell, d: Cell) -> SeamCount
 #[derive(Clone, Copy)]
 pub struct CellRun {
     pub lane: u32,
-    pub cells: Cells,
-    pub rest: Cells,
+    pub cells: LastCells,
+    pub rest: LastCells,
 }
 
 // The cells of a lane in front of the last cells.
-fn cell_run(s: &[u32], lane: u32, cells: Cells) -> CellRun
+fn cell_run(s: &[u32], lane: u32, cells: LastCells) -> CellRun
     requires { cells.end ≤ length s.now }
     ensures { RunAt s.now lane cells result }
 {

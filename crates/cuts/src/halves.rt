@@ -12,7 +12,7 @@ ghost use Rattle.session.specs.Reading.{last_cells};
 ghost use Rattle.cuts.specs.Halving.{left_half, right_half, half_of, line_cell, crossed_note, across_parts, max_session, contents_by, contents_at, notes_left, Noted};
 ghost use Rattle.cuts.specs.BothHalves.{max_place, cell_place, left_cell, right_cell, left_cells, right_cells, BothPut, PartsAsks, PartsPut, NotesAsks, CellsAsks, CountsAsks, BothAsks};
 
-use crate::lasts::{Cells, Last, Notes};
+use crate::lasts::{Last, LastCells, LastNotes};
 use model::{Cell, Header, Note};
 use session::{clear, header, notes, rules, shelf};
 
@@ -67,8 +67,8 @@ pub fn right_half(delta: u32, beat: u32, beats: u32) -> Half
 // The notes of a shelf, and its cells, or those of both that are left.
 #[derive(Clone, Copy)]
 pub struct Contents {
-    pub notes: Notes,
-    pub cells: Cells,
+    pub notes: LastNotes,
+    pub cells: LastCells,
 }
 
 // The notes and cells of a shelf at a place, by its counts.
@@ -110,7 +110,7 @@ pub fn contents_of(s: &[u32], h: Header, take: u32) -> Contents
 // ---- notes
 
 // The cells from the closing cell of the beat in front on: behind its opening cell, if that stands there.
-fn closing_cells(s: &[u32], cells: Cells) -> Cells
+fn closing_cells(s: &[u32], cells: LastCells) -> LastCells
     requires { cells.end ≤ length s.now }
     ensures line { (first_cell (last_cells s.now cells.end result.left) ≡ closing_cell (last_cells s.now cells.end cells.left)) × (result.left ≤ cells.left) }
     ensures end_is { result.end ≡ cells.end }
@@ -126,7 +126,7 @@ fn closing_cells(s: &[u32], cells: Cells) -> Cells
 }
 
 // The cells from the half's own cell on the line on: its beat's opening cell for the right half, its beat's closing cell for the left.
-fn line_cells(s: &[u32], half: Half, cells: Cells) -> Cells
+fn line_cells(s: &[u32], half: Half, cells: LastCells) -> LastCells
     requires { cells.end ≤ length s.now }
     ensures line { (first_cell (last_cells s.now cells.end result.left) ≡ line_cell half (last_cells s.now cells.end cells.left)) × (result.left ≤ cells.left) }
     ensures end_is { result.end ≡ cells.end }
@@ -157,7 +157,7 @@ fn crossed(half: Half, n: Note, velocity: u32) -> Note
 }
 
 // The half's part of a note that crosses the line, if its cell there stands alone. Returns the place behind it.
-fn put_across(s: &mut [u32], to: usize, h: Header, half: Half, n: Note, cells: Cells) -> usize
+fn put_across(s: &mut [u32], to: usize, h: Header, half: Half, n: Note, cells: LastCells) -> usize
     requires { (to + 4 * length (across_parts h half n (last_cells s.old cells.end cells.left)) ≤ length s.old) × (cells.end ≤ length s.old) × (half.line ≤ n.end) }
     ensures { Noted s.old to (across_parts h half n (last_cells s.old cells.end cells.left)) s.new result }
 {

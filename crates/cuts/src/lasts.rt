@@ -11,9 +11,9 @@ pub struct Last<const WORDS: usize> {
 }
 
 // Notes have four words, and cells six.
-pub type Notes = Last<4>;
+pub type LastNotes = Last<4>;
 
-pub type Cells = Last<6>;
+pub type LastCells = Last<6>;
 
 impl<const WORDS: usize> Last<WORDS> {
     ghost use Rattle.std.specs.Prelude.{◌<◌, length};
