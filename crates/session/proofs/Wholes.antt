@@ -18,21 +18,26 @@ use Rattle.session.specs.Sliced.{notes_of, cells_of}
 
 -- ---- words as arrays
 
--- What is read of a list n words at a time is what its arrays of n words give, if each is read by its own n words alone.
+-- The first arrays of a list's first words are the first arrays of the list.
+chunks_ahead : (n k m : ℕ) (ws : List ℕ) → n * k ≤ m → first_chunks n k (take m ws) ≡ first_chunks n k ws
+chunks_ahead n zero m ws h = refl
+chunks_ahead n (suc k) m ws h =
+    let e : n * suc k ≡ n + n * k = omega arith in
+    let rest : m ≡ n + (m - n) = omega arith in
+    let first : take n (take m ws) ≡ take n ws = take-take n m ws (omega arith) in
+    let behind : drop n (take m ws) ≡ take (m - n) (drop n ws) = ap (λ (i : ℕ). drop n (take i ws)) rest ∙ drop-take n (m - n) ws in
+    rw (first, behind, chunks_ahead n k (m - n) (drop n ws) (omega arith))
+
+-- What is read of a list n words at a time, each time from those n words alone, is what its arrays of n words give.
 module _ {X : Type 0} (n : ℕ) (one : List ℕ → X) (all : ℕ → List ℕ → List X) (none : (ws : List ℕ) → all 0 ws ≡ [])
     (more : (k : ℕ) (ws : List ℕ) → all (suc k) ws ≡ one (take n ws) ∷ all k (drop n ws)) where
-  chunks_read : (k m : ℕ) (ws : List ℕ) → n * k ≤ m → map one (first_chunks n k (take m ws)) ≡ all k ws
-  chunks_read zero m ws h = sym (none ws)
-  chunks_read (suc k) m ws h =
-      let e : n * suc k ≡ n + n * k = omega arith in
-      let rest : m ≡ n + (m - n) = omega arith in
-      let first : take n (take m ws) ≡ take n ws = take-take n m ws (omega arith) in
-      let behind : drop n (take m ws) ≡ take (m - n) (drop n ws) = ap (λ (i : ℕ). drop n (take i ws)) rest ∙ drop-take n (m - n) ws in
-      rw (first, behind, chunks_read k (m - n) (drop n ws) (omega arith)) (sym (more k ws))
+  chunks_read : (k : ℕ) (ws : List ℕ) → map one (first_chunks n k ws) ≡ all k ws
+  chunks_read zero ws = sym (none ws)
+  chunks_read (suc k) ws = ap (◌∷◌ (one (take n ws))) (chunks_read k (drop n ws)) ∙ sym (more k ws)
 
-  pub part_read : (ws : List ℕ) (at k m : ℕ) → m / n ≡ k → n * k ≤ m → at + m ≤ length ws
+  part_read : (ws : List ℕ) (at k m : ℕ) → m / n ≡ k → n * k ≤ m → at + m ≤ length ws
       → map one (first_chunks n (length (take m (drop at ws)) / n) (take m (drop at ws))) ≡ all k (drop at ws)
-  part_read ws at k m q h fits = rw (length_part ws at m fits, q) (chunks_read k m (drop at ws) h)
+  part_read ws at k m q h fits = rw (length_part ws at m fits, q, chunks_ahead n k m (drop at ws) h) (chunks_read k (drop at ws))
 
 note_more : (k : ℕ) (ws : List ℕ) → read_notes (suc k) ws ≡ note_at (take 4 ws) 0 ∷ read_notes k (drop 4 ws)
 unfolding read_notes note_at
@@ -49,6 +54,10 @@ cell_more k ws =
       get_or-take 6 ws 4 0 (omega arith),
       get_or-take 6 ws 5 0 (omega arith),
     )
+
+pub whole_notes : (k : ℕ) (ws : List ℕ) → notes_of (first_chunks 4 k ws) ≡ read_notes k ws
+unfolding read_notes
+whole_notes = chunks_read 4 (λ w. note_at w 0) read_notes (λ ws. refl) note_more
 
 module _ (ws : List ℕ) (at k m : ℕ) where
   pub part_notes : m ≡ 4 * k → at + m ≤ length ws → notes_of (first_chunks 4 (length (take m (drop at ws)) / 4) (take m (drop at ws))) ≡ read_notes k (drop at ws)

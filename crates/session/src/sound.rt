@@ -77,7 +77,8 @@ pub fn notes_ok(h: Header, beats: u32, notes: &[NoteWords], cells: &[CellWords])
     ensures { result ≡ notes_asked h beats (notes_of notes.now) (cells_of cells.now) }
 {
     let by = Divisor::new(h.delta);
-    let mut last = notes::before_all();
+    // Every note may stand behind this one.
+    let mut last = Note::default();
     let mut left = Left {
         beside: cells,
         line: cells,

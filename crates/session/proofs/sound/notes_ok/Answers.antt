@@ -2,6 +2,7 @@
 use mathlib.Core.Path.{sym, ◌∙◌}
 use Rattle.std.proofs.lemmas.List.{at_drop_all}
 use Rattle.session.specs.Sliced.{notes_of, cells_of}
+use Rattle.session.proofs.Checks.{zeros_are}
 use Rattle.session.proofs.Standings.{notes_pass, start-within, not_in_order, not_passed, pass_next, pass_none}
 use Rattle.session.proofs.Wholes.{note_behind}
 use Rattle.session.proofs.sound.notes_ok.Goals as goal
@@ -20,7 +21,7 @@ returns-in_default c =
     ∙ notes_pass c.args.h c.args.beats c.requires.0 (notes_of c.args.notes.now) (cells_of c.args.cells.now) c.requires.3
 
 pub loop-words-init : goal.loop-words-init
-loop-words-init c = rw c.before_all-last.ensures
+loop-words-init c = rw (zeros_are c.default-last.result c.default-last.ensures)
 
 pub loop-words-preserved : goal.loop-words-preserved
 loop-words-preserved c = sym (pass_next _ _ _ _ (note_behind _ _ c.loop-words-test.true _ c.note_at-n.ensures) _ _ c.in_order.ensures c.if-not-in_order.false (sym c.in-Some.ensures)) ∙ c.loop-words.invariant
