@@ -1,11 +1,11 @@
 // Both halves of a take, written into two other shelves of the session in one pass over the take's own notes and cells.
-ghost use Rattle.std.specs.Prelude.{◌≡◌, true, ◌+◌, ◌-◌, ◌*◌, ◌/◌, ◌≤◌, ◌<◌, length};
+ghost use Rattle.std.specs.Prelude.{◌≡◌, ◌+◌, ◌-◌, ◌*◌, ◌/◌, ◌≤◌, ◌<◌, length};
 ghost use Rattle.words.specs.Splice.{splice};
 ghost use Rattle.model.specs.Limits.{max_beats, max_delta};
 ghost use Rattle.model.specs.Lists.{gather};
 ghost use Rattle.model.specs.Takes.{note_words, cell_words, words_of};
 ghost use Rattle.model.specs.Session.{shelf_at};
-ghost use Rattle.model.specs.Questions.{header_ok, take_at};
+ghost use Rattle.model.specs.Questions.{take_at};
 ghost use Rattle.laws.specs.Cutting.{closing_cell, first_cell};
 ghost use Rattle.session.specs.Framing.{framed};
 ghost use Rattle.session.specs.Reading.{last_cells};
@@ -14,6 +14,7 @@ ghost use Rattle.cuts.specs.BothHalves.{max_place, cell_place, left_cell, right_
 
 use crate::lasts::{Last, LastCells, LastNotes};
 use model::{Cell, Header, Note};
+use session::view::SessionView;
 use session::{clear, header, notes, rules, shelf};
 
 // The half before the beat of a split, or the half from that beat on.
@@ -100,11 +101,11 @@ pub fn contents_at(s: &[u32], at: usize) -> Contents
 }
 
 // The notes and cells of the take in a shelf.
-pub fn contents_of(s: &[u32], h: Header, take: u32) -> Contents
-    requires { (header_ok h (length s.now) ≡ true) × (take < h.shelves) }
-    ensures { result ≡ contents_at s.now (shelf_at h take) }
+pub fn contents_of(s: SessionView, take: u32) -> Contents
+    requires { take < s.header.shelves }
+    ensures { result ≡ contents_at s.entry.words.now (shelf_at s.entry.header take) }
 {
-    contents_at(s, header::shelf_at(h, take))
+    contents_at(s.words, header::shelf_at(s.header, take))
 }
 
 // ---- notes
@@ -368,7 +369,11 @@ pub fn put_both(
     requires { BothAsks s.old h before behind take left right }
     ensures { s.new ≡ splice (splice s.old (shelf_at h left) (words_of h (half_of h.delta before (take_at h s.old take)))) (shelf_at h right) (words_of h (half_of h.delta behind (take_at h s.old take))) }
 {
-    let from = contents_of(s, h, take);
+    let read = SessionView {
+        words: s,
+        header: h,
+    };
+    let from = contents_of(read, take);
     let l = header::shelf_at(h, left);
     let r = header::shelf_at(h, right);
     let first = Ends {

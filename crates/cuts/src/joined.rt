@@ -1,8 +1,8 @@
 // Two takes joined, written into another shelf of the session straight from their own notes and cells.
-ghost use Rattle.std.specs.Prelude.{◌≡◌, true, ◌<◌, length};
+ghost use Rattle.std.specs.Prelude.{◌≡◌, ◌<◌};
 ghost use Rattle.cuts.specs.Making.{Made};
 ghost use Rattle.words.specs.Splice.{splice};
-ghost use Rattle.model.specs.Questions.{header_ok, take_at};
+ghost use Rattle.model.specs.Questions.{take_at};
 ghost use Rattle.model.specs.Session.{shelf_at};
 ghost use Rattle.model.specs.Takes.{join_takes, words_of};
 ghost use Rattle.cuts.specs.Joined.{LowerAsks, Lowered, BeforeAsks, PutBefore, JoinedAsks, cells_joined, PutAsks};
@@ -10,6 +10,7 @@ ghost use Rattle.cuts.specs.Joined.{LowerAsks, Lowered, BeforeAsks, PutBefore, J
 use crate::lasts::LastCells;
 use crate::{halves, lanes};
 use model::{Cell, Header};
+use session::view::SessionView;
 use session::{header, notes};
 
 // ---- cells
@@ -85,12 +86,11 @@ pub fn put_joined_cells(
 // ---- the join
 
 // The beats of the take in a shelf.
-pub fn beats_at(s: &[u32], h: Header, take: u32) -> u32
-    requires { (header_ok h (length s.now) ≡ true) × (take < h.shelves) }
-    ensures { result ≡ (take_at h s.now take).beats }
+pub fn beats_at(s: SessionView, take: u32) -> u32
+    requires { take < s.header.shelves }
+    ensures { result ≡ (take_at s.entry.header s.entry.words.now take).beats }
 {
-    let at = header::shelf_at(h, take);
-    s[at]
+    s.shelf(take)[0]
 }
 
 // The join of the takes in two shelves, written into another: notes, then cells behind them, then the counts and zeros.
@@ -98,10 +98,14 @@ pub fn put_joined(s: &mut [u32], h: Header, first: u32, second: u32, res: u32)
     requires { PutAsks s.old h first second res }
     ensures { s.new ≡ splice s.old (shelf_at h res) (words_of h (join_takes h.delta (take_at h s.old first) (take_at h s.old second))) }
 {
-    let beats = beats_at(s, h, first);
-    let total = beats + beats_at(s, h, second);
-    let a = halves::contents_of(s, h, first);
-    let b = halves::contents_of(s, h, second);
+    let read = SessionView {
+        words: s,
+        header: h,
+    };
+    let beats = beats_at(read, first);
+    let total = beats + beats_at(read, second);
+    let a = halves::contents_of(read, first);
+    let b = halves::contents_of(read, second);
     let at = header::shelf_at(h, res);
     let middle = lanes::put_joined_notes(s, at + 3, h, beats, a, b);
     let end = put_joined_cells(s, middle, beats, a.cells, b.cells);
