@@ -9,11 +9,13 @@ ghost use Rattle.model.specs.Questions.{take_at};
 ghost use Rattle.laws.specs.Cutting.{closing_cell, first_cell};
 ghost use Rattle.session.specs.Framing.{framed};
 ghost use Rattle.session.specs.Reading.{last_cells};
+ghost use Rattle.session.specs.Sliced.{cells_of};
 ghost use Rattle.cuts.specs.Halving.{left_half, right_half, half_of, line_cell, crossed_note, across_parts, max_session, contents_by, contents_at, notes_left, Noted};
 ghost use Rattle.cuts.specs.BothHalves.{max_place, cell_place, left_cell, right_cell, left_cells, right_cells, BothPut, PartsAsks, PartsPut, NotesAsks, CellsAsks, CountsAsks, BothAsks};
 
 use crate::lasts::{Last, LastCells, LastNotes};
 use model::{Cell, Header, Note};
+use session::slices::CellWords;
 use session::view::SessionView;
 use session::{clear, header, notes, rules, shelf};
 
@@ -111,29 +113,27 @@ pub fn contents_of(s: SessionView, take: u32) -> Contents
 // ---- notes
 
 // The cells from the closing cell of the beat in front on: behind its opening cell, if that stands there.
-fn closing_cells(s: &[u32], cells: LastCells) -> LastCells
-    requires { cells.end ≤ length s.now }
-    ensures line { (first_cell (last_cells s.now cells.end result.left) ≡ closing_cell (last_cells s.now cells.end cells.left)) × (result.left ≤ cells.left) }
-    ensures end_is { result.end ≡ cells.end }
+#[tactic(auto, unfolding(laws::specs::Cutting::first_cell, laws::specs::Cutting::closing_cell))]
+fn closing_cells(cells: &[CellWords]) -> &[CellWords]
+    ensures { first_cell (cells_of result.now) ≡ closing_cell (cells_of cells.now) }
 {
-    if cells.left == 0 {
+    let Some((first, behind)) = cells.split_first() else {
         return cells;
+    };
+    if notes::cell_at(first, 0).side == 0 {
+        behind
+    } else {
+        cells
     }
-    let c = notes::cell_at(s, cells.place());
-    if c.side == 0 {
-        return cells.keep(cells.left - 1);
-    }
-    cells
 }
 
 // The cells from the half's own cell on the line on: its beat's opening cell for the right half, its beat's closing cell for the left.
-fn line_cells(s: &[u32], half: Half, cells: LastCells) -> LastCells
-    requires { cells.end ≤ length s.now }
-    ensures line { (first_cell (last_cells s.now cells.end result.left) ≡ line_cell half (last_cells s.now cells.end cells.left)) × (result.left ≤ cells.left) }
-    ensures end_is { result.end ≡ cells.end }
+#[tactic(auto, unfolding(crate::specs::Halving::line_cell))]
+fn line_cells(half: Half, cells: &[CellWords]) -> &[CellWords]
+    ensures { first_cell (cells_of result.now) ≡ line_cell half (cells_of cells.now) }
 {
     match half.side {
-        Side::Left => closing_cells(s, cells),
+        Side::Left => closing_cells(cells),
         Side::Right => cells,
     }
 }
@@ -162,11 +162,10 @@ fn put_across(s: &mut [u32], to: usize, h: Header, half: Half, n: Note, cells: L
     requires { (to + 4 * length (across_parts h half n (last_cells s.old cells.end cells.left)) ≤ length s.old) × (cells.end ≤ length s.old) × (half.line ≤ n.end) }
     ensures { Noted s.old to (across_parts h half n (last_cells s.old cells.end cells.left)) s.new result }
 {
-    let own = line_cells(s, half, cells);
-    if own.left == 0 {
+    let Some(words) = line_cells(half, cells.arrays(s)).first() else {
         return to;
-    }
-    let c = notes::cell_at(s, own.place());
+    };
+    let c = notes::cell_at(words, 0);
     if !rules::stands_alone(h, c) {
         return to;
     }

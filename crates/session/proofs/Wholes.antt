@@ -28,16 +28,17 @@ chunks_ahead n (suc k) m ws h =
     let behind : drop n (take m ws) ≡ take (m - n) (drop n ws) = ap (λ (i : ℕ). drop n (take i ws)) rest ∙ drop-take n (m - n) ws in
     rw (first, behind, chunks_ahead n k (m - n) (drop n ws) (omega arith))
 
+-- So are those of a part, if the part has the words of so many.
+pub part_chunks : (n : ℕ) (ws : List ℕ) (at k m : ℕ) → m / n ≡ k → n * k ≤ m → at + m ≤ length ws
+    → first_chunks n (length (take m (drop at ws)) / n) (take m (drop at ws)) ≡ first_chunks n k (drop at ws)
+part_chunks n ws at k m q h fits = rw (length_part ws at m fits, q) (chunks_ahead n k m (drop at ws) h)
+
 -- What is read of a list n words at a time, each time from those n words alone, is what its arrays of n words give.
 module _ {X : Type 0} (n : ℕ) (one : List ℕ → X) (all : ℕ → List ℕ → List X) (none : (ws : List ℕ) → all 0 ws ≡ [])
     (more : (k : ℕ) (ws : List ℕ) → all (suc k) ws ≡ one (take n ws) ∷ all k (drop n ws)) where
   chunks_read : (k : ℕ) (ws : List ℕ) → map one (first_chunks n k ws) ≡ all k ws
   chunks_read zero ws = sym (none ws)
   chunks_read (suc k) ws = ap (◌∷◌ (one (take n ws))) (chunks_read k (drop n ws)) ∙ sym (more k ws)
-
-  part_read : (ws : List ℕ) (at k m : ℕ) → m / n ≡ k → n * k ≤ m → at + m ≤ length ws
-      → map one (first_chunks n (length (take m (drop at ws)) / n) (take m (drop at ws))) ≡ all k (drop at ws)
-  part_read ws at k m q h fits = rw (length_part ws at m fits, q, chunks_ahead n k m (drop at ws) h) (chunks_read k (drop at ws))
 
 note_more : (k : ℕ) (ws : List ℕ) → read_notes (suc k) ws ≡ note_at (take 4 ws) 0 ∷ read_notes k (drop 4 ws)
 unfolding read_notes note_at
@@ -59,14 +60,16 @@ pub whole_notes : (k : ℕ) (ws : List ℕ) → notes_of (first_chunks 4 k ws) �
 unfolding read_notes
 whole_notes = chunks_read 4 (λ w. note_at w 0) read_notes (λ ws. refl) note_more
 
+pub whole_cells : (k : ℕ) (ws : List ℕ) → cells_of (first_chunks 6 k ws) ≡ read_cells k ws
+unfolding read_cells
+whole_cells = chunks_read 6 (λ w. cell_at w 0) read_cells (λ ws. refl) cell_more
+
 module _ (ws : List ℕ) (at k m : ℕ) where
   pub part_notes : m ≡ 4 * k → at + m ≤ length ws → notes_of (first_chunks 4 (length (take m (drop at ws)) / 4) (take m (drop at ws))) ≡ read_notes k (drop at ws)
-  unfolding read_notes
-  part_notes e fits = part_read 4 (λ w. note_at w 0) read_notes (λ ws. refl) note_more ws at k m (omega arith) (omega arith) fits
+  part_notes e fits = ap notes_of (part_chunks 4 ws at k m (omega arith) (omega arith) fits) ∙ whole_notes k (drop at ws)
 
   pub part_cells : m ≡ 6 * k → at + m ≤ length ws → cells_of (first_chunks 6 (length (take m (drop at ws)) / 6) (take m (drop at ws))) ≡ read_cells k (drop at ws)
-  unfolding read_cells
-  part_cells e fits = part_read 6 (λ w. cell_at w 0) read_cells (λ ws. refl) cell_more ws at k m (omega arith) (omega arith) fits
+  part_cells e fits = ap cells_of (part_chunks 6 ws at k m (omega arith) (omega arith) fits) ∙ whole_cells k (drop at ws)
 
 -- ---- what is left from array i on
 
