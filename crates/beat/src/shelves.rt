@@ -1,11 +1,11 @@
 // Questions 2 and 4 of the calls that read shelves, split and join.
-ghost use Rattle.std.specs.Prelude.{◌≡◌, true, ◌&&◌, ◌<◌, ltb, length};
+ghost use Rattle.std.specs.Prelude.{◌≡◌, ◌&&◌, ◌<◌, ltb};
 ghost use Rattle.model.specs.Session.{shelf};
 ghost use Rattle.model.specs.Soundness.{sound_shelf};
-ghost use Rattle.model.specs.Questions.{header_ok};
 
 use model::Header;
-use session::{header, sound};
+use session::sound;
+use session::view::SessionView;
 
 // Question 2: are the three shelves below K?
 pub fn shelves_ok(h: Header, first: u32, second: u32, third: u32) -> bool
@@ -15,11 +15,9 @@ pub fn shelves_ok(h: Header, first: u32, second: u32, third: u32) -> bool
 }
 
 // Question 4: is a shelf sound?
-pub fn is_sound(s: &[u32], h: Header, take: u32) -> bool
-    requires { (header_ok h (length s.now) ≡ true) × (take < h.shelves) }
-    ensures { result ≡ sound_shelf h (shelf h s.now take) }
+pub fn is_sound(s: SessionView, take: u32) -> bool
+    requires { take < s.header.shelves }
+    ensures { result ≡ sound_shelf s.entry.header (shelf s.entry.header s.entry.words.now take) }
 {
-    let at = header::shelf_at(h, take);
-    let end = at + (h.words as usize);
-    sound::sound(h, &s[at..end])
+    sound::sound(s.header, s.shelf(take))
 }

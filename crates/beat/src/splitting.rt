@@ -1,8 +1,8 @@
 // Split: the beats of a take before a beat go to one shelf, the others to another.
-ghost use Rattle.std.specs.Prelude.{◌≡◌, true, not, ◌&&◌, eqb, length};
+ghost use Rattle.std.specs.Prelude.{◌≡◌, not, ◌&&◌, eqb};
 ghost use Rattle.model.specs.Machine.{split_call};
 ghost use Rattle.model.specs.Numbers.{answer_number};
-ghost use Rattle.model.specs.Questions.{header_ok, results, put_all, number, after};
+ghost use Rattle.model.specs.Questions.{results, put_all, number, after};
 ghost use Rattle.beat.specs.Splitting.{split_asked, SplitAsks};
 
 use crate::shelves;
@@ -10,6 +10,7 @@ use cuts::{halves, joined};
 use model::Header;
 use model::questions::Question;
 use session::header;
+use session::view::SessionView;
 
 // Question 3: are the three shelves different?
 fn differ(take: u32, left: u32, right: u32) -> bool
@@ -20,20 +21,19 @@ fn differ(take: u32, left: u32, right: u32) -> bool
 
 // Questions 2 to 5: the first that is answered no.
 #[tactic(auto, using(crate::proofs::Splits::asked_is))]
-fn asked(s: &[u32], h: Header, take: u32, beat: u32, left: u32, right: u32) -> Result<(), Question>
-    requires { header_ok h (length s.now) ≡ true }
-    ensures { answer_number result ≡ split_asked h s.now take beat left right }
+fn asked(s: SessionView, take: u32, beat: u32, left: u32, right: u32) -> Result<(), Question>
+    ensures { answer_number result ≡ split_asked s.entry.header s.entry.words.now take beat left right }
 {
-    if !shelves::shelves_ok(h, take, left, right) {
+    if !shelves::shelves_ok(s.header, take, left, right) {
         return Err(Question::ShelvesBelow);
     }
     if !differ(take, left, right) {
         return Err(Question::ShelvesDiffer);
     }
-    if !shelves::is_sound(s, h, take) {
+    if !shelves::is_sound(s, take) {
         return Err(Question::ShelvesSound);
     }
-    if joined::beats_at(s, h, take) < beat {
+    if joined::beats_at(s, take) < beat {
         return Err(Question::BeatWithin);
     }
     Ok(())
@@ -64,7 +64,11 @@ pub fn take_split(
     ensures words { session.new ≡ after session.old (split_call take beat left right) }
 {
     let header = header::read(session)?;
-    asked(session, header, take, beat, left, right)?;
+    let read = SessionView {
+        words: session,
+        header,
+    };
+    asked(read, take, beat, left, right)?;
     put_halves(session, header, take, beat, left, right);
     Ok(())
 }

@@ -21,7 +21,6 @@ use Rattle.laws.specs.SeamWalk.{cell_later}
 use Rattle.laws.specs.Sessions.{length-cell_words}
 use Rattle.session.specs.Reading.{cell_at, last_cells}
 use Rattle.session.proofs.Lasts.{no_cells, last_cells_lem}
-use Rattle.cuts.specs.declared.halves.Contents.{Contents}
 use Rattle.cuts.specs.declared.lasts.Last.{Last}
 use Rattle.cuts.specs.Making.{Made}
 use Rattle.cuts.specs.Joined.{lower_cells, upper_cells, later_cells, Movable, RunAsks, LowerAsks, Lowered, before, BeforeAsks, PutBefore, cells_joined, JoinedAsks}
@@ -209,11 +208,11 @@ module _ {s : List ℕ} {to : ℕ} {c : Cell} {beats end left : ℕ} (a : Before
 
 -- ---- the walk over both
 
-pub record Joining (s₀ s : List ℕ) (to beats : ℕ) (first second : Contents) (at left : ℕ) (rest : Last 6) : Type 0 where
-  pub few : left ≤ first.cells.left
-  pub rest_end : rest.end ≡ second.cells.end
-  pub rest_few : rest.left ≤ second.cells.left
-  pub writes : Writes s₀ s to at (gather cell_words (cells_joined beats s₀ first second first.cells.left second.cells.left)) (gather cell_words (cells_joined beats s₀ first second left rest.left))
+pub record Joining (s₀ s : List ℕ) (to beats : ℕ) (first second : Last 6) (at left : ℕ) (rest : Last 6) : Type 0 where
+  pub few : left ≤ first.left
+  pub rest_end : rest.end ≡ second.end
+  pub rest_few : rest.left ≤ second.left
+  pub writes : Writes s₀ s to at (gather cell_words (cells_joined beats s₀ first second first.left second.left)) (gather cell_words (cells_joined beats s₀ first second left rest.left))
 
 -- cells below lane 2,048 are all lower
 lower-all : (beats : ℕ) (cs : List Cell) → All (Movable beats) cs → lower_cells 2048 (map (cell_later beats) cs) ≡ map (cell_later beats) cs
@@ -221,61 +220,61 @@ lower-all beats [] a = lower-none 2048
 lower-all beats (c ∷ cs) a =
     lower_go 2048 (cell_later beats c) (map (cell_later beats) cs) a.0.lane_below ∙ ap (◌∷◌ (cell_later beats c)) (lower-all beats cs a.1)
 
-module _ {s₀ : List ℕ} {to beats : ℕ} {first second : Contents} (a : JoinedAsks s₀ to beats first second) where
+module _ {s₀ : List ℕ} {to beats : ℕ} {first second : Last 6} (a : JoinedAsks s₀ to beats first second) where
   abbrev all : List Cell
-  all = cells_joined beats s₀ first second first.cells.left second.cells.left
+  all = cells_joined beats s₀ first second first.left second.left
 
   module _ {s : List ℕ} {at left : ℕ} {rest : Last 6} (l : Joining s₀ s to beats first second at left rest) where
     all_sized : length (gather cell_words all) ≡ 6 * length all
     all_sized = length-cell_words all
 
-    first_were : (k : ℕ) → k ≤ first.cells.left → last_cells s first.cells.end k ≡ last_cells s₀ first.cells.end k
-    first_were = run_were first.cells.fits (writes_same l.writes (rw all_sized a.first-apart))
+    first_were : (k : ℕ) → k ≤ first.left → last_cells s first.end k ≡ last_cells s₀ first.end k
+    first_were = run_were first.fits (writes_same l.writes (rw all_sized a.first-apart))
 
-    second_were : (k : ℕ) → k ≤ second.cells.left → last_cells s second.cells.end k ≡ last_cells s₀ second.cells.end k
-    second_were = run_were second.cells.fits (writes_same l.writes (rw all_sized a.run.apart))
+    second_were : (k : ℕ) → k ≤ second.left → last_cells s second.end k ≡ last_cells s₀ second.end k
+    second_were = run_were second.fits (writes_same l.writes (rw all_sized a.run.apart))
 
-    later_were : (k : ℕ) → k ≤ second.cells.left → later_cells beats s second.cells.end k ≡ later_cells beats s₀ second.cells.end k
+    later_were : (k : ℕ) → k ≤ second.left → later_cells beats s second.end k ≡ later_cells beats s₀ second.end k
     unfolding later_cells
     later_were k few = rw (second_were k few)
 
     -- the second's cells that are left can be read while so many words are written
-    rest-run : (size : ℕ) → at + size ≤ to + 6 * length all → RunAsks s beats second.cells.end rest.left at size
+    rest-run : (size : ℕ) → at + size ≤ to + 6 * length all → RunAsks s beats second.end rest.left at size
     rest-run size fits =
         let low = l.writes.low in
-        let in-run : Apart (second.cells.end - 6 * second.cells.left) (6 * second.cells.left) at size = apart-within at size a.run.apart low fits in
+        let in-run : Apart (second.end - 6 * second.left) (6 * second.left) at size = apart-within at size a.run.apart low fits in
         record {
           inside = omega (arith, a.run.inside, l.writes.long);
-          movable = rw (second_were rest.left l.rest_few) (all-last (Movable beats) s₀ second.cells.end second.cells.left rest.left l.rest_few second.cells.fits a.run.movable);
-          apart = apart_swap (apart-within (second.cells.end - 6 * rest.left) (6 * rest.left) (apart_swap in-run) (omega (arith, l.rest_few)) (omega (arith, l.rest_few, second.cells.fits)));
+          movable = rw (second_were rest.left l.rest_few) (all-last (Movable beats) s₀ second.end second.left rest.left l.rest_few second.fits a.run.movable);
+          apart = apart_swap (apart-within (second.end - 6 * rest.left) (6 * rest.left) (apart_swap in-run) (omega (arith, l.rest_few)) (omega (arith, l.rest_few, second.fits)));
           room = omega (arith, a.run.room, l.writes.long);
         }
 
     module _ (more : 0 < left) where
-      pub first_place : 6 * left ≤ first.cells.end
-      first_place = omega (arith, first.cells.fits, l.few)
+      pub first_place : 6 * left ≤ first.end
+      first_place = omega (arith, first.fits, l.few)
 
-      module _ {c : Cell} (is : c ≡ cell_at s (first.cells.end - 6 * left)) where
-        next_cell : last_cells s₀ first.cells.end left ≡ c ∷ last_cells s₀ first.cells.end (left - 1)
-        next_cell = sym (first_were left l.few) ∙ last_cells_lem s first.cells.end left more first_place ∙ rw (← is, first_were (left - 1) (omega (arith, l.few)))
+      module _ {c : Cell} (is : c ≡ cell_at s (first.end - 6 * left)) where
+        next_cell : last_cells s₀ first.end left ≡ c ∷ last_cells s₀ first.end (left - 1)
+        next_cell = sym (first_were left l.few) ∙ last_cells_lem s first.end left more first_place ∙ rw (← is, first_were (left - 1) (omega (arith, l.few)))
 
         part : List Cell
-        part = before beats s c second.cells.end rest.left
+        part = before beats s c second.end rest.left
 
         abbrev behind : List Cell
-        behind = merge_lane (λ c. c.lane) (last_cells s₀ first.cells.end (left - 1)) (upper_cells c.lane (later_cells beats s₀ second.cells.end rest.left))
+        behind = merge_lane (λ c. c.lane) (last_cells s₀ first.end (left - 1)) (upper_cells c.lane (later_cells beats s₀ second.end rest.left))
 
         step : cells_joined beats s₀ first second left rest.left ≡ part ++ behind
         unfolding cells_joined part before
         step =
-            let ds = later_cells beats s₀ second.cells.end rest.left in
+            let ds = later_cells beats s₀ second.end rest.left in
             rw (next_cell, later_were rest.left l.rest_few)
-            (merge_step c (last_cells s₀ first.cells.end (left - 1)) ds ∙ sym (append_assoc (lower_cells c.lane ds) (c ∷ []) behind))
+            (merge_step c (last_cells s₀ first.end (left - 1)) ds ∙ sym (append_assoc (lower_cells c.lane ds) (c ∷ []) behind))
 
         ahead_of : Writes s₀ s to at (gather cell_words all) (gather cell_words part ++ gather cell_words behind)
         ahead_of = rw (step, gather_append cell_words part behind) at l.writes
 
-        there_asks : BeforeAsks s at c beats second.cells.end rest.left
+        there_asks : BeforeAsks s at c beats second.end rest.left
         unfolding part
         there_asks =
             record {
@@ -288,15 +287,15 @@ module _ {s₀ : List ℕ} {to beats : ℕ} {first second : Contents} (a : Joine
         before_asks = subst (λ (e : ℕ). BeforeAsks s at c beats e rest.left) (sym l.rest_end) there_asks
 
         module _ {t : List ℕ} {next : ℕ} (put : PutBefore s at c beats rest.end rest.left t next) where
-          m : PutBefore s at c beats second.cells.end rest.left t next
+          m : PutBefore s at c beats second.end rest.left t next
           m = subst (λ (e : ℕ). PutBefore s at c beats e rest.left t next) l.rest_end put
 
           pub some_fewer : next ≤ rest.left
           unfolding before
           some_fewer =
-              omega (arith, m.count, length-append (lower_cells c.lane (later_cells beats s second.cells.end rest.left)) (c ∷ []))
+              omega (arith, m.count, length-append (lower_cells c.lane (later_cells beats s second.end rest.left)) (c ∷ []))
 
-          left_over : upper_cells c.lane (later_cells beats s₀ second.cells.end rest.left) ≡ later_cells beats s₀ second.cells.end next
+          left_over : upper_cells c.lane (later_cells beats s₀ second.end rest.left) ≡ later_cells beats s₀ second.end next
           left_over = rw (← later_were rest.left l.rest_few, ← later_were next (omega (arith, some_fewer, l.rest_few))) (sym m.rest)
 
           pub at_room : at + 6 * (rest.left - next) + 6 ≤ length s
@@ -317,30 +316,30 @@ module _ {s₀ : List ℕ} {to beats : ℕ} {first second : Contents} (a : Joine
 
     -- the first's cells are over
     module _ (over : left ≤ 0) where
-      over_is : cells_joined beats s₀ first second left rest.left ≡ lower_cells 2048 (later_cells beats s second.cells.end rest.left)
+      over_is : cells_joined beats s₀ first second left rest.left ≡ lower_cells 2048 (later_cells beats s second.end rest.left)
       unfolding cells_joined merge_lane later_cells
       over_is =
           let z : left ≡ 0 = omega arith in
-          let none : last_cells s₀ first.cells.end left ≡ [] = ap (last_cells s₀ first.cells.end) z ∙ no_cells s₀ first.cells.end in
-          let fit = all-last (Movable beats) s₀ second.cells.end second.cells.left rest.left l.rest_few second.cells.fits a.run.movable in
-          rw (none, second_were rest.left l.rest_few) (sym (lower-all beats (last_cells s₀ second.cells.end rest.left) fit))
+          let none : last_cells s₀ first.end left ≡ [] = ap (last_cells s₀ first.end) z ∙ no_cells s₀ first.end in
+          let fit = all-last (Movable beats) s₀ second.end second.left rest.left l.rest_few second.fits a.run.movable in
+          rw (none, second_were rest.left l.rest_few) (sym (lower-all beats (last_cells s₀ second.end rest.left) fit))
 
-      last-ahead : Writes s₀ s to at (gather cell_words all) (gather cell_words (lower_cells 2048 (later_cells beats s second.cells.end rest.left)))
+      last-ahead : Writes s₀ s to at (gather cell_words all) (gather cell_words (lower_cells 2048 (later_cells beats s second.end rest.left)))
       last-ahead = rw over_is at l.writes
 
-      over_asks : LowerAsks s at 2048 beats second.cells.end rest.left
+      over_asks : LowerAsks s at 2048 beats second.end rest.left
       over_asks =
           record {
             run =
-                rest-run (6 * length (lower_cells 2048 (later_cells beats s second.cells.end rest.left)))
-                (omega (arith, last-ahead.place, all_sized, length-cell_words (lower_cells 2048 (later_cells beats s second.cells.end rest.left))));
+                rest-run (6 * length (lower_cells 2048 (later_cells beats s second.end rest.left)))
+                (omega (arith, last-ahead.place, all_sized, length-cell_words (lower_cells 2048 (later_cells beats s second.end rest.left))));
           }
 
       pub last_asks : LowerAsks s at 2048 beats rest.end rest.left
       last_asks = subst (λ (e : ℕ). LowerAsks s at 2048 beats e rest.left) (sym l.rest_end) over_asks
 
       module _ {t : List ℕ} {r : ℕ} (put : Lowered s at 2048 beats rest.end rest.left t r) where
-        over_put : Lowered s at 2048 beats second.cells.end rest.left t r
+        over_put : Lowered s at 2048 beats second.end rest.left t r
         over_put = subst (λ (e : ℕ). Lowered s at 2048 beats e rest.left t r) l.rest_end put
 
         pub joined-room : (r ≤ rest.left) × (at + 6 * (rest.left - r) ≤ length s)
@@ -349,5 +348,5 @@ module _ {s₀ : List ℕ} {to beats : ℕ} {first second : Contents} (a : Joine
         pub joined-done : Made s₀ to all t (at + 6 * (rest.left - r))
         joined-done = record {
           words = over_put.words ∙ last-ahead.same;
-          behind = omega (arith, over_put.count, last-ahead.place, all_sized, length-cell_words (lower_cells 2048 (later_cells beats s second.cells.end rest.left)));
+          behind = omega (arith, over_put.count, last-ahead.place, all_sized, length-cell_words (lower_cells 2048 (later_cells beats s second.end rest.left)));
         }

@@ -78,18 +78,18 @@ module _ {s : List ℕ} {h : Header} {i j k : ℕ} (a : JoinAsks s h i j k) wher
   -- l is the session while the other shelf is written: the cells of both are as they were
   module _ {first second : Contents} (r : Read first_read first) (q : Read second_read second) (l : List ℕ) (long : length l ≡ length s)
       (e : last_cells l first.cells.end first.cells.left ≡ t.cells) (f : last_cells l second.cells.end second.cells.left ≡ u.cells) where
-    pub cells_are_joined : cells_joined t.beats l first second first.cells.left second.cells.left ≡ (join_takes h.delta t u).cells
+    pub cells_are_joined : cells_joined t.beats l first.cells second.cells first.cells.left second.cells.left ≡ (join_takes h.delta t u).cells
     unfolding cells_joined later_cells
     cells_are_joined = rw (e, f) (sym (join_cells h.delta t u solid_first solid_second))
 
     module _ (to : ℕ) (low : shelf_at h k ≤ to) (high : to + 6 * length (join_takes h.delta t u).cells ≤ shelf_at h k + h.words) where
       abbrev size : ℕ
-      size = 6 * length (cells_joined t.beats l first second first.cells.left second.cells.left)
+      size = 6 * length (cells_joined t.beats l first.cells second.cells first.cells.left second.cells.left)
 
       within : to + size ≤ shelf_at h k + h.words
       within = rw cells_are_joined high
 
-      pub joined_asks : JoinedAsks l to t.beats first second
+      pub joined_asks : JoinedAsks l to t.beats first.cells second.cells
       joined_asks =
           let p = placed first_read r l long to size low within in
           let o = placed second_read q l long to size low within in
@@ -106,6 +106,6 @@ module _ {s : List ℕ} {h : Header} {i j k : ℕ} (a : JoinAsks s h i j k) wher
           }
 
       -- the joined cells, written
-      pub joined_made : {m : List ℕ} {b : ℕ} → Made l to (cells_joined t.beats l first second first.cells.left second.cells.left) m b
+      pub joined_made : {m : List ℕ} {b : ℕ} → Made l to (cells_joined t.beats l first.cells second.cells first.cells.left second.cells.left) m b
           → Made l to (join_takes h.delta t u).cells m b
       joined_made d = rw (← cells_are_joined) d

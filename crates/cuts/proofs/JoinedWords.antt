@@ -70,10 +70,10 @@ module _ {s : List ℕ} {h : Header} {i j k : ℕ} (p : PutAsks s h i j k) where
       high_cells : middle + 6 * length both.cells ≤ shelf_at h k + h.words
       high_cells = omega (arith, notes_put.behind, place, room)
 
-      pub cells_asks : JoinedAsks s₁ middle x first second
+      pub cells_asks : JoinedAsks s₁ middle x first.cells second.cells
       cells_asks = rw m (joined_asks a r q s₁ long first_still second_still middle low_middle high_cells)
 
-      module _ {s₂ : List ℕ} {end : ℕ} (made : Made s₁ middle (cells_joined x s₁ first second first.cells.left second.cells.left) s₂ end) where
+      module _ {s₂ : List ℕ} {end : ℕ} (made : Made s₁ middle (cells_joined x s₁ first.cells second.cells first.cells.left second.cells.left) s₂ end) where
         cells-put : Made s₁ middle both.cells s₂ end
         cells-put = joined_made a r q s₁ long first_still second_still middle low_middle high_cells (rw m at made)
 

@@ -1,11 +1,15 @@
 -- What a half has of a note, by the way that the code goes. Assumes nothing.
-use mathlib.Core.Path.{◌≡◌, ◌∙◌}
+use mathlib.Core.Path.{◌≡◌, refl, sym, ap, ◌∙◌}
 use mathlib.Core.Bool.{Bool, true, false, not}
 use mathlib.Core.List.{List, [], ◌∷◌}
 use Prim.Native.Nat.{ℕ, ◌+◌, ◌-◌, ◌*◌, ◌≤◌, ◌<◌}
 use native.Mathlib.Omega.{arith}
-use borrow.Author.Tests.{le-leb, lt-leb, eq-eqb, ne_eqb, not-true, not-false}
-use lib.ListN.{length}
+use borrow.Author.Tests.{le-leb, lt-leb, not-true, not-false}
+use lib.ListN.{length, drop}
+use Rattle.std.specs.Prelude.{Option, None, Some}
+use Rattle.std.specs.List.{slice_get}
+use Rattle.std.proofs.lemmas.Option.{none-some}
+use Rattle.std.proofs.Math.Option.{none, some}
 use Rattle.words.specs.Splice.{splice}
 use Rattle.model.specs.Lists.{cons_if}
 use Rattle.model.specs.Binding.{stands_alone}
@@ -14,9 +18,11 @@ use Rattle.model.specs.declared.Header.{Header}
 use Rattle.model.specs.declared.Note.{Note}
 use Rattle.model.specs.declared.Cell.{Cell}
 use Rattle.laws.specs.Sweep.{skip}
-use Rattle.laws.specs.Cutting.{note_back, first_cell, closing_cell}
+use Rattle.laws.specs.Cutting.{note_back, first_cell}
+use Rattle.std.specs.Simd.{first_chunks}
 use Rattle.session.specs.Reading.{cell_at, last_cells}
-use Rattle.session.proofs.Lasts.{no_cells, cons}
+use Rattle.session.specs.Sliced.{cells_of}
+use Rattle.session.proofs.Wholes.{whole_cells}
 use Rattle.std.proofs.Math.Bridge.{le_prop}
 use Rattle.cuts.specs.declared.halves.Contents.{Contents}
 use Rattle.cuts.specs.declared.halves.Half.{Half}
@@ -60,35 +66,6 @@ module _ (v : Half) (n : Note) (cs : List Cell) where
     unfolding passed
     some_across i = rw (lt-leb n.end v.line h, lt-leb v.line n.start i)
 
--- ---- the half's cell on the line
-
-module _ (v : Half) (cs : List Cell) where
-  pub line-right : is_right v.side ≡ true → first_cell cs ≡ line_cell v cs
-  unfolding line_cell
-  line-right e = rw e
-
-  pub line-left : is_right v.side ≡ false → closing_cell cs ≡ line_cell v cs
-  unfolding line_cell
-  line-left e = rw e
-
--- the closing cell of the beat in front
-module _ (ws : List ℕ) (end k : ℕ) where
-  pub closing-none : k ≡ 0 → first_cell (last_cells ws end k) ≡ closing_cell (last_cells ws end k)
-  unfolding first_cell closing_cell
-  closing-none z = rw (z, no_cells ws end)
-
-  module _ (some : (k ≡ 0 → ⊥)) (fits : 6 * k ≤ end) {c : Cell} (is : c ≡ cell_at ws (end - 6 * k)) where
-    split : last_cells ws end k ≡ c ∷ last_cells ws end (k - 1)
-    split = cons ws end k (omega arith) fits is
-
-    pub closing_second : c.side ≡ 0 → first_cell (last_cells ws end (k - 1)) ≡ closing_cell (last_cells ws end k)
-    unfolding closing_cell
-    closing_second o = rw (split, eq-eqb c.side 0 o)
-
-    pub closing_first : (c.side ≡ 0 → ⊥) → first_cell (last_cells ws end k) ≡ closing_cell (last_cells ws end k)
-    unfolding first_cell closing_cell
-    closing_first o = rw (split, ne_eqb c.side 0 o)
-
 -- ---- a note that crosses the line
 
 module _ (v : Half) (n : Note) (velocity : ℕ) where
@@ -100,18 +77,34 @@ module _ (v : Half) (n : Note) (velocity : ℕ) where
   unfolding crossed_note
   crossed_left e = rw e
 
-module _ (h : Header) (v : Half) (n : Note) (s : List ℕ) (end left at : ℕ) (found : first_cell (last_cells s end at) ≡ line_cell v (last_cells s end left)) where
+-- the first of the cells, if it is there
+first_none : (ws : List (List ℕ)) → None ≡ slice_get ws 0 → first_cell (cells_of ws) ≡ none
+unfolding first_cell
+first_none [] e = refl
+first_none (w ∷ ws) e = absurd (none-some w e)
+
+first_some : (ws : List (List ℕ)) {w : List ℕ} → Some w ≡ slice_get ws 0 → first_cell (cells_of ws) ≡ some (cell_at w 0)
+unfolding first_cell
+first_some [] {w} e = absurd (none-some w (sym e))
+first_some (v ∷ ws) {w} e = ap (λ (o : Option (List ℕ)). elim o [ None ↦ some (cell_at v 0) | Some x ↦ some (cell_at x 0) ]) (sym e)
+
+-- own are of the cells those from the half's own cell on
+module _ (h : Header) (v : Half) (n : Note) (s : List ℕ) (end left : ℕ) {all : List (List ℕ)} (own : List (List ℕ)) (are : all ≡ first_chunks 6 left (drop (end - 6 * left) s)) (line : first_cell (cells_of own) ≡ line_cell v (cells_of all)) where
   abbrev parts : List Note
   parts = across_parts h v n (last_cells s end left)
 
-  pub across_none : (to : ℕ) → at ≡ 0 → Noted s to parts s to
-  unfolding across_parts crossed_by first_cell
-  across_none to z = noted_none s to (rw (← found, z, no_cells s end))
+  found : first_cell (cells_of own) ≡ line_cell v (last_cells s end left)
+  unfolding last_cells
+  found = line ∙ ap (λ (ws : List (List ℕ)). line_cell v (cells_of ws)) are ∙ ap (line_cell v) (whole_cells left (drop (end - 6 * left) s))
 
-  module _ (some : (at ≡ 0 → ⊥)) (fits : 6 * at ≤ end) {c : Cell} (is : c ≡ cell_at s (end - 6 * at)) {p : Bool} (e : p ≡ stands_alone h c) where
+  pub across_none : (to : ℕ) → None ≡ slice_get own 0 → Noted s to parts s to
+  unfolding across_parts crossed_by
+  across_none to e = noted_none s to (rw (← found, first_none own e))
+
+  module _ {words : List ℕ} (some : Some words ≡ slice_get own 0) {c : Cell} (is : c ≡ cell_at words 0) {p : Bool} (e : p ≡ stands_alone h c) where
     by_cell : parts ≡ cons_if p (crossed_note v n c.velocity) []
-    unfolding across_parts crossed_by first_cell
-    by_cell = rw (← found, cons s end at (omega arith) fits is, e)
+    unfolding across_parts crossed_by
+    by_cell = rw (← found, first_some own some, ← is, e)
 
     pub across_hidden : (to : ℕ) → not p ≡ true → Noted s to parts s to
     across_hidden to t = noted_none s to (by_cell ∙ rw (not-true p t))

@@ -14,7 +14,7 @@ use Rattle.laws.specs.Lanes.{merge_lane}
 use Rattle.laws.specs.Relations.{All}
 use Rattle.laws.specs.SeamWalk.{cell_later}
 use Rattle.session.specs.Reading.{last_cells}
-use Rattle.cuts.specs.declared.halves.Contents.{Contents}
+use Rattle.cuts.specs.declared.lasts.Last.{Last}
 
 -- ---- cells
 
@@ -68,14 +68,14 @@ pub record PutBefore (s : List ℕ) (to : ℕ) (c : Cell) (beats end left : ℕ)
   pub count : left + 1 ≡ r + length (before beats s c end left)
 
 -- The joined cells of the first take's last k and the second's last j cells.
-unfoldable pub cells_joined : ℕ → List ℕ → Contents → Contents → ℕ → ℕ → List Cell
+unfoldable pub cells_joined : ℕ → List ℕ → Last 6 → Last 6 → ℕ → ℕ → List Cell
 unfolding later_cells merge_lane
-cells_joined beats s first second k j = merge_lane (λ c. c.lane) (last_cells s first.cells.end k) (later_cells beats s second.cells.end j)
+cells_joined beats s first second k j = merge_lane (λ c. c.lane) (last_cells s first.end k) (later_cells beats s second.end j)
 
-pub record JoinedAsks (s : List ℕ) (to beats : ℕ) (first second : Contents) : Type 0 where
-  pub first-inside : first.cells.end ≤ length s
-  pub first-apart : Apart (first.cells.end - 6 * first.cells.left) (6 * first.cells.left) to (6 * length (cells_joined beats s first second first.cells.left second.cells.left))
-  pub run : RunAsks s beats second.cells.end second.cells.left to (6 * length (cells_joined beats s first second first.cells.left second.cells.left))
+pub record JoinedAsks (s : List ℕ) (to beats : ℕ) (first second : Last 6) : Type 0 where
+  pub first-inside : first.end ≤ length s
+  pub first-apart : Apart (first.end - 6 * first.left) (6 * first.left) to (6 * length (cells_joined beats s first second first.left second.left))
+  pub run : RunAsks s beats second.end second.left to (6 * length (cells_joined beats s first second first.left second.left))
 
 -- ---- two shelves
 

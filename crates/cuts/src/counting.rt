@@ -9,9 +9,10 @@ ghost use Rattle.session.specs.Reading.{last_cells};
 ghost use Rattle.cuts.specs.Counting.{count_of, pair_at, run_cells, RunAhead, RunAt, SeamsAsks, CountsAsks, counted_words, FitAsks};
 
 use crate::halves::Contents;
-use crate::lasts::Cells;
+use crate::lasts::LastCells;
 use crate::{halves, joined, seam};
 use model::{Cell, Header};
+use session::view::SessionView;
 use session::{notes, rules};
 
 // ---- the pair of a lane
@@ -42,12 +43,12 @@ fn pair_count(h: Header, beats: u32, c: Cell, d: Cell) -> SeamCount
 #[derive(Clone, Copy)]
 pub struct CellRun {
     pub lane: u32,
-    pub cells: Cells,
-    pub rest: Cells,
+    pub cells: LastCells,
+    pub rest: LastCells,
 }
 
 // The cells of a lane in front of the last cells.
-fn cell_run(s: &[u32], lane: u32, cells: Cells) -> CellRun
+fn cell_run(s: &[u32], lane: u32, cells: LastCells) -> CellRun
     requires { cells.end ≤ length s.now }
     ensures { RunAt s.now lane cells result }
 {
@@ -120,15 +121,16 @@ fn counts_fit(h: Header, first: Contents, second: Contents, more: usize, fewer: 
 
 // Question 8: does the join of the takes in two sound shelves fit a shelf? Yes at once where it fits with a note more for each pair that
 // there can be; else its notes are counted.
-pub fn join_fits(s: &[u32], h: Header, first: u32, second: u32) -> bool
-    requires { FitAsks s.now h first second }
-    ensures { result ≡ fits h (join_takes h.delta (take_at h s.now first) (take_at h s.now second)) }
+pub fn join_fits(s: SessionView, first: u32, second: u32) -> bool
+    requires { FitAsks s.words.now s.header first second }
+    ensures { result ≡ fits s.entry.header (join_takes s.entry.header.delta (take_at s.entry.header s.entry.words.now first) (take_at s.entry.header s.entry.words.now second)) }
 {
-    let a = halves::contents_of(s, h, first);
-    let b = halves::contents_of(s, h, second);
+    let h = s.header;
+    let a = halves::contents_of(s, first);
+    let b = halves::contents_of(s, second);
     if counts_fit(h, a, b, most_pairs(a, b), 0) {
         return true;
     }
-    let seams = count_seams(s, h, joined::beats_at(s, h, first), a, b);
+    let seams = count_seams(s.words, h, joined::beats_at(s, first), a, b);
     counts_fit(h, a, b, seams.pairs, seams.alone)
 }

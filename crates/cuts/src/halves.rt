@@ -1,19 +1,22 @@
 // Both halves of a take, written into two other shelves of the session in one pass over the take's own notes and cells.
-ghost use Rattle.std.specs.Prelude.{◌≡◌, true, ◌+◌, ◌-◌, ◌*◌, ◌/◌, ◌≤◌, ◌<◌, length};
+ghost use Rattle.std.specs.Prelude.{◌≡◌, ◌+◌, ◌-◌, ◌*◌, ◌/◌, ◌≤◌, ◌<◌, length};
 ghost use Rattle.words.specs.Splice.{splice};
 ghost use Rattle.model.specs.Limits.{max_beats, max_delta};
 ghost use Rattle.model.specs.Lists.{gather};
 ghost use Rattle.model.specs.Takes.{note_words, cell_words, words_of};
 ghost use Rattle.model.specs.Session.{shelf_at};
-ghost use Rattle.model.specs.Questions.{header_ok, take_at};
+ghost use Rattle.model.specs.Questions.{take_at};
 ghost use Rattle.laws.specs.Cutting.{closing_cell, first_cell};
 ghost use Rattle.session.specs.Framing.{framed};
 ghost use Rattle.session.specs.Reading.{last_cells};
+ghost use Rattle.session.specs.Sliced.{cells_of};
 ghost use Rattle.cuts.specs.Halving.{left_half, right_half, half_of, line_cell, crossed_note, across_parts, max_session, contents_by, contents_at, notes_left, Noted};
 ghost use Rattle.cuts.specs.BothHalves.{max_place, cell_place, left_cell, right_cell, left_cells, right_cells, BothPut, PartsAsks, PartsPut, NotesAsks, CellsAsks, CountsAsks, BothAsks};
 
-use crate::lasts::{Cells, Last, Notes};
+use crate::lasts::{Last, LastCells, LastNotes};
 use model::{Cell, Header, Note};
+use session::slices::CellWords;
+use session::view::SessionView;
 use session::{clear, header, notes, rules, shelf};
 
 // The half before the beat of a split, or the half from that beat on.
@@ -67,8 +70,8 @@ pub fn right_half(delta: u32, beat: u32, beats: u32) -> Half
 // The notes of a shelf, and its cells, or those of both that are left.
 #[derive(Clone, Copy)]
 pub struct Contents {
-    pub notes: Notes,
-    pub cells: Cells,
+    pub notes: LastNotes,
+    pub cells: LastCells,
 }
 
 // The notes and cells of a shelf at a place, by its counts.
@@ -100,39 +103,37 @@ pub fn contents_at(s: &[u32], at: usize) -> Contents
 }
 
 // The notes and cells of the take in a shelf.
-pub fn contents_of(s: &[u32], h: Header, take: u32) -> Contents
-    requires { (header_ok h (length s.now) ≡ true) × (take < h.shelves) }
-    ensures { result ≡ contents_at s.now (shelf_at h take) }
+pub fn contents_of(s: SessionView, take: u32) -> Contents
+    requires { take < s.header.shelves }
+    ensures { result ≡ contents_at s.entry.words.now (shelf_at s.entry.header take) }
 {
-    contents_at(s, header::shelf_at(h, take))
+    contents_at(s.words, header::shelf_at(s.header, take))
 }
 
 // ---- notes
 
 // The cells from the closing cell of the beat in front on: behind its opening cell, if that stands there.
-fn closing_cells(s: &[u32], cells: Cells) -> Cells
-    requires { cells.end ≤ length s.now }
-    ensures line { (first_cell (last_cells s.now cells.end result.left) ≡ closing_cell (last_cells s.now cells.end cells.left)) × (result.left ≤ cells.left) }
-    ensures end_is { result.end ≡ cells.end }
+#[tactic(auto, unfolding(laws::specs::Cutting::first_cell, laws::specs::Cutting::closing_cell))]
+fn closing_cells(cells: &[CellWords]) -> &[CellWords]
+    ensures { first_cell (cells_of result.now) ≡ closing_cell (cells_of cells.now) }
 {
-    if cells.left == 0 {
+    let Some((first, behind)) = cells.split_first() else {
         return cells;
+    };
+    if notes::cell_at(first, 0).side == 0 {
+        behind
+    } else {
+        cells
     }
-    let c = notes::cell_at(s, cells.place());
-    if c.side == 0 {
-        return cells.keep(cells.left - 1);
-    }
-    cells
 }
 
 // The cells from the half's own cell on the line on: its beat's opening cell for the right half, its beat's closing cell for the left.
-fn line_cells(s: &[u32], half: Half, cells: Cells) -> Cells
-    requires { cells.end ≤ length s.now }
-    ensures line { (first_cell (last_cells s.now cells.end result.left) ≡ line_cell half (last_cells s.now cells.end cells.left)) × (result.left ≤ cells.left) }
-    ensures end_is { result.end ≡ cells.end }
+#[tactic(auto, unfolding(crate::specs::Halving::line_cell))]
+fn line_cells(half: Half, cells: &[CellWords]) -> &[CellWords]
+    ensures { first_cell (cells_of result.now) ≡ line_cell half (cells_of cells.now) }
 {
     match half.side {
-        Side::Left => closing_cells(s, cells),
+        Side::Left => closing_cells(cells),
         Side::Right => cells,
     }
 }
@@ -157,15 +158,14 @@ fn crossed(half: Half, n: Note, velocity: u32) -> Note
 }
 
 // The half's part of a note that crosses the line, if its cell there stands alone. Returns the place behind it.
-fn put_across(s: &mut [u32], to: usize, h: Header, half: Half, n: Note, cells: Cells) -> usize
+fn put_across(s: &mut [u32], to: usize, h: Header, half: Half, n: Note, cells: LastCells) -> usize
     requires { (to + 4 * length (across_parts h half n (last_cells s.old cells.end cells.left)) ≤ length s.old) × (cells.end ≤ length s.old) × (half.line ≤ n.end) }
     ensures { Noted s.old to (across_parts h half n (last_cells s.old cells.end cells.left)) s.new result }
 {
-    let own = line_cells(s, half, cells);
-    if own.left == 0 {
+    let Some(words) = line_cells(half, cells.arrays(s)).first() else {
         return to;
-    }
-    let c = notes::cell_at(s, own.place());
+    };
+    let c = notes::cell_at(words, 0);
     if !rules::stands_alone(h, c) {
         return to;
     }
@@ -368,7 +368,11 @@ pub fn put_both(
     requires { BothAsks s.old h before behind take left right }
     ensures { s.new ≡ splice (splice s.old (shelf_at h left) (words_of h (half_of h.delta before (take_at h s.old take)))) (shelf_at h right) (words_of h (half_of h.delta behind (take_at h s.old take))) }
 {
-    let from = contents_of(s, h, take);
+    let read = SessionView {
+        words: s,
+        header: h,
+    };
+    let from = contents_of(read, take);
     let l = header::shelf_at(h, left);
     let r = header::shelf_at(h, right);
     let first = Ends {

@@ -5,7 +5,7 @@ ghost use Rattle.cuts.specs.Seams.{lane_by, lane_notes};
 ghost use Rattle.cuts.specs.LaneNotes.{SeamAsks, kept_by, SeamPut, seam_end, BackFrom, Joinable, FirstPut, LanePut, JoinNotesAsks, lane_joined, lanes_joined};
 
 use crate::halves::Contents;
-use crate::lasts::Notes;
+use crate::lasts::LastNotes;
 use crate::lines::Line;
 use crate::seam;
 use crate::seam::Seam;
@@ -40,7 +40,16 @@ fn seam_of(
     if !seam::bound_over(at.h, at.beats, c, d) {
         return None;
     }
-    Some(seam::seam_over(s, at, c, d, first.notes, rest.notes, second.notes))
+    Some(seam::seam_over(
+        s,
+        at.h,
+        at.tick,
+        c,
+        d,
+        first.notes,
+        rest.notes,
+        second.notes,
+    ))
 }
 
 // How many of so many notes stay in front of the note that goes over the line.
@@ -68,7 +77,7 @@ fn put_seam(s: &mut [u32], to: usize, count: usize, seam: Option<Seam>) -> usize
 }
 
 // The last notes from where those of a lane behind its seam begin.
-fn behind_seam(s: &[u32], seam: Option<Seam>, lane: u32, from: Notes) -> Notes
+fn behind_seam(s: &[u32], seam: Option<Seam>, lane: u32, from: LastNotes) -> LastNotes
     requires { from.end ≤ length s.now }
     ensures back { BackFrom s.now seam lane from.end from.left result.left }
     ensures end_is { result.end ≡ from.end }

@@ -11,12 +11,13 @@ pub struct Last<const WORDS: usize> {
 }
 
 // Notes have four words, and cells six.
-pub type Notes = Last<4>;
+pub type LastNotes = Last<4>;
 
-pub type Cells = Last<6>;
+pub type LastCells = Last<6>;
 
 impl<const WORDS: usize> Last<WORDS> {
-    ghost use Rattle.std.specs.Prelude.{◌<◌, length};
+    ghost use Rattle.std.specs.Prelude.{◌<◌, drop, length};
+    ghost use Rattle.std.specs.Simd.{first_chunks};
     ghost use Rattle.cuts.specs.Lasts.{lane_of_last};
 
     // The place of the first.
@@ -37,6 +38,16 @@ impl<const WORDS: usize> Last<WORDS> {
             return 2048;
         }
         s[self.place()]
+    }
+
+    // The words of each, as arrays.
+    pub(crate) fn arrays(self, s: &[u32]) -> &[[u32; WORDS]]
+        requires some { 0 < WORDS }
+        requires inside { self.end ≤ length s.now }
+        ensures { result.now ≡ first_chunks WORDS self.entry.left (drop (self.entry.end - WORDS * self.entry.left) s.now) }
+    {
+        let (all, _) = s[self.place()..self.end].as_chunks::<WORDS>();
+        all
     }
 
     // The last so many of them.

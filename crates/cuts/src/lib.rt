@@ -6,5 +6,5 @@ pub mod halves;
 pub mod joined;
 pub mod lanes;
 pub mod lasts;
-pub mod lines;
+mod lines;
 pub mod seam;

@@ -6,14 +6,13 @@ ghost use Rattle.session.specs.Reading.{last_notes, last_cells};
 ghost use Rattle.cuts.specs.Seams.{NoteRunAsks, NoteRunPut, RunRead, OverAsks, over_seam, InPlace, lane_of};
 
 use crate::halves::Contents;
-use crate::lasts::{Cells, Notes};
-use crate::lines::Line;
+use crate::lasts::{LastCells, LastNotes};
 use model::{Cell, Header, Note};
 use session::{notes, rules};
 
 // The notes of a lane in front of the last notes, so many ticks later. Returns those that are left.
 // One generic function for this and joined::put_lower is no plainer: it would take three closures, for reading, the test and the words.
-pub fn put_note_run(s: &mut [u32], to: usize, lane: u32, ticks: u32, notes: Notes) -> Notes
+pub fn put_note_run(s: &mut [u32], to: usize, lane: u32, ticks: u32, notes: LastNotes) -> LastNotes
     requires { NoteRunAsks s.old to lane ticks notes.end notes.left }
     ensures put { NoteRunPut s.old to lane ticks notes.end notes.left s.new result.left }
     ensures end_is { result.end ≡ notes.end }
@@ -31,7 +30,7 @@ pub fn put_note_run(s: &mut [u32], to: usize, lane: u32, ticks: u32, notes: Note
 }
 
 // The cells that are left behind those of a lane in front.
-pub fn behind_cell_run(s: &[u32], cells: Cells, lane: u32) -> Cells
+pub fn behind_cell_run(s: &[u32], cells: LastCells, lane: u32) -> LastCells
     requires { cells.end ≤ length s.now }
     ensures run { (last_cells s.now cells.end result.left ≡ cell_rest lane (last_cells s.now cells.end cells.left)) × (result.left ≤ cells.left) }
     ensures end_is { result.end ≡ cells.end }
@@ -93,21 +92,21 @@ fn starting(d: Cell) -> Note
 }
 
 // The note that goes over the line, up to it. Of the last notes those of the cell's lane in front are read, and `rest` are left.
-pub fn up_to(s: &[u32], at: Line, c: Cell, notes: Notes, rest: Notes) -> Note
+pub fn up_to(s: &[u32], h: Header, line: u32, c: Cell, notes: LastNotes, rest: LastNotes) -> Note
     requires { RunRead s.now c.lane notes.end notes.left rest.left }
-    ensures { result ≡ up_to at.h at.tick c (note_run c.lane (last_notes s.now notes.end notes.left)) }
+    ensures { result ≡ up_to h line c (note_run c.lane (last_notes s.now notes.end notes.left)) }
 {
     if rest.left == notes.left {
-        return ending(at.tick, c);
+        return ending(line, c);
     }
-    if rules::stands_alone(at.h, c) {
+    if rules::stands_alone(h, c) {
         return notes::note_at(s, notes.end - 4 * (rest.left + 1));
     }
-    ending(at.tick, c)
+    ending(line, c)
 }
 
 // The note that goes over the line, from it on, in the second take: of its last notes, those of the cell's lane in front.
-pub fn from_on(s: &[u32], h: Header, d: Cell, notes: Notes) -> Note
+pub fn from_on(s: &[u32], h: Header, d: Cell, notes: LastNotes) -> Note
     requires { notes.end ≤ length s.now }
     ensures { result ≡ from_on h d (note_run d.lane (last_notes s.now notes.end notes.left)) }
 {
@@ -138,25 +137,26 @@ pub struct Seam {
 // The seam where a note goes over the line: c and d are the lane's cells on it. Of the first's notes of the lane, all but `rest` are read.
 pub fn seam_over(
     s: &[u32],
-    at: Line,
+    h: Header,
+    line: u32,
     c: Cell,
     d: Cell,
-    first: Notes,
-    rest: Notes,
-    second: Notes,
+    first: LastNotes,
+    rest: LastNotes,
+    second: LastNotes,
 ) -> Seam
-    requires { OverAsks s.now at.h at.tick c d first.end first.left rest.left second.end second.left }
-    ensures { result ≡ over_seam at.h at.tick c d (note_run c.lane (last_notes s.now first.end first.left)) (note_run d.lane (last_notes s.now second.end second.left)) }
+    requires { OverAsks s.now h line c d first.end first.left rest.left second.end second.left }
+    ensures { result ≡ over_seam h line c d (note_run c.lane (last_notes s.now first.end first.left)) (note_run d.lane (last_notes s.now second.end second.left)) }
 {
-    let n = up_to(s, at, c, first, rest);
-    let m = from_on(s, at.h, d, second);
+    let n = up_to(s, h, line, c, first, rest);
+    let m = from_on(s, h, d, second);
     Seam {
-        held: rules::stands_alone(at.h, c),
-        skipped: rules::stands_alone(at.h, d),
+        held: rules::stands_alone(h, c),
+        skipped: rules::stands_alone(h, d),
         note: Note {
             lane: n.lane,
             start: n.start,
-            end: m.end + at.tick,
+            end: m.end + line,
             velocity: n.velocity,
         },
     }

@@ -102,7 +102,7 @@ impl Header {
 }
 
 // A note: its lane (channel × 128 + key), start and end in ticks, velocity.
-#[derive(Clone, Copy)]
+#[derive(Clone, Copy, Default)]
 pub struct Note {
     pub lane: u32,
     pub start: u32,

@@ -1,14 +1,16 @@
 -- The check of a note list: what holds before each note. Assumes nothing.
-use mathlib.Core.Path.{◌≡◌, refl, ap, ◌∙◌}
+use mathlib.Core.Path.{◌≡◌, refl, sym, ap, ◌∙◌}
 use mathlib.Core.Logic.{⊎_elim}
-use mathlib.Core.Bool.{true, false, ◌&&◌, ◌||◌, and-false}
+use mathlib.Core.Bool.{Bool, true, false, ◌&&◌, ◌||◌, and-false}
 use mathlib.Core.List.{List, [], ◌∷◌}
 use Prim.Native.Nat.{ℕ, zero, suc, ◌+◌, ◌*◌, ◌-◌, ◌/◌, ◌%◌, ◌≤◌, ◌<◌}
-use native.Mathlib.Nat.{mul-le-mul, mul-le-mul_left, mul-le-mul_right, add-mul, suc-mul, div-add-mod', eq-or-lt_of_le, sub-zero}
+use native.Mathlib.Nat.{mul-le-mul_left, mul-le-mul_right, add-mul, suc-mul, eq-or-lt_of_le}
 use native.Mathlib.Omega.{arith}
-use borrow.Author.Tests.{le-leb, lt-ltb, eq-eqb, ne_eqb}
+use borrow.Author.Tests.{le-leb, lt-ltb}
 use lib.Dec.{leb, ltb, eqb}
-use lib.ListN.{length, drop, length-append}
+use lib.ListN.{length, drop, get_or, length-append}
+use Rattle.std.proofs.lemmas.List.{at_drop_all}
+use Rattle.std.specs.Simd.{first_chunks}
 use Rattle.model.specs.Lists.{gather}
 use Rattle.model.specs.Limits.{max_beats, max_delta, lane_count}
 use Rattle.model.specs.Pieces.{first_beat, last_beat, cells_of_note}
@@ -18,15 +20,16 @@ use Rattle.model.specs.Machine.{listed}
 use Rattle.model.specs.Questions.{list_ok}
 use Rattle.model.specs.declared.Header.{Header}
 use Rattle.model.specs.declared.Note.{Note}
-use Rattle.laws.specs.Notes.{Fair, fair, Follow, Follow.above, Follow.later, follow}
+use Rattle.laws.specs.Notes.{note_same, Fair, fair, Follow, Follow.above, Follow.later, follow}
 use Rattle.session.specs.Checking.{before_all}
 use Rattle.session.specs.Reading.{note_at}
+use Rattle.session.specs.Sliced.{notes_of}
 use Rattle.std.specs.Prelude.{Ok, Err}
 use Rattle.model.specs.Numbers.{answer_of}
 use Rattle.model.specs.declared.questions.Question.TheVariants.{ListInOrder}
 use Rattle.session.specs.Listing.{count_words, list_asked, cells_listed}
 use Rattle.session.proofs.Counts.{note_beats, count-note, one_le}
-use Rattle.session.proofs.Readings.{notes_cons}
+use Rattle.session.proofs.Wholes.{note_behind, whole_notes}
 
 -- ---- one note
 
@@ -56,6 +59,10 @@ few_cells δ n h =
 
 -- ---- the loop
 
+pub zeros_are : (m : Note) → (m.lane ≡ 0) × ((m.start ≡ 0) × ((m.end ≡ 0) × (m.velocity ≡ 0))) → m ≡ before_all
+unfolding before_all
+zeros_are m e = note_same e.0 e.1.0 e.1.1.0 e.1.1.1
+
 pub first_follows_lem : (ns : List Note) → first_follows before_all ns ≡ true
 unfolding first_follows follows before_all
 first_follows_lem [] = refl
@@ -65,73 +72,59 @@ first_follows_lem (n ∷ ns) = go n.lane
     go zero = le-leb 0 n.start (omega arith)
     go (suc l) = rw (lt-ltb 0 (suc l) (omega arith))
 
-module _ (δ beats : ℕ) (ws : List ℕ) where
-  -- the notes from place at on, all of them, and how many cells some notes have
+module _ (δ beats : ℕ) (ws : List (List ℕ)) where
+  -- the notes from array i on, all of them, and how many cells some notes have
   abbrev rest : ℕ → List Note
-  rest at = read_notes ((length ws - at) / 4) (drop at ws)
+  rest i = notes_of (drop i ws)
 
   abbrev all : List Note
-  all = read_notes (length ws / 4) ws
+  all = notes_of ws
 
   abbrev cells_in : List Note → ℕ
   cells_in ns = length (gather (cells_of_note δ) ns)
 
-  -- the notes ahead of place at are in order, the last of them is m and they have so many cells
-  pub record Checked (m : Note) (cells at : ℕ) : Type 0 where
-    pub whole : at + 4 * ((length ws - at) / 4) ≡ length ws
-    pub ok : notes_ok δ beats all ≡ (first_follows m (rest at) && notes_ok δ beats (rest at))
-    pub count : cells + cells_in (rest at) ≡ cells_in all
+  -- the notes ahead of array i are in order, the last of them is m and they have so many cells
+  pub record Checked (m : Note) (cells i : ℕ) : Type 0 where
+    pub ok : notes_ok δ beats all ≡ (first_follows m (rest i) && notes_ok δ beats (rest i))
+    pub count : cells + cells_in (rest i) ≡ cells_in all
     pub lane : m.lane < lane_count
     pub top : m.end ≤ beats * δ
     pub few : cells ≤ 2 * (m.lane * (beats * δ) + m.end)
 
-  start : length ws % 4 ≡ 0 → Checked before_all 0 0
+  start : Checked before_all 0 0
   unfolding before_all
-  start whole = record {
-    whole = rw (sub-zero (length ws)) (omega (arith, div-add-mod' (length ws) 4));
-    ok = rw (sub-zero (length ws), first_follows_lem all);
-    count = rw (sub-zero (length ws)) (omega arith);
-    lane = omega arith;
-    top = omega arith;
-    few = omega arith;
-  }
+  start = record { ok = rw (first_follows_lem all); count = omega arith; lane = omega arith; top = omega arith; few = omega arith }
 
-  pub checked-start : {m : Note} → m ≡ before_all → length ws % 4 ≡ 0 → Checked m 0 0
-  checked-start e whole = rw e (start whole)
+  pub checked-start : {m : Note} → m ≡ before_all → Checked m 0 0
+  checked-start e = rw e start
 
-  module _ {m : Note} {cells at : ℕ} (c : Checked m cells at) where
-    pub checked-done : length ws ≤ at → (notes_ok δ beats all ≡ true) × (cells ≡ cells_in all)
-    unfolding read_notes notes_ok first_follows
+  module _ {m : Note} {cells i : ℕ} (c : Checked m cells i) where
+    pub checked-done : length ws ≤ i → (notes_ok δ beats all ≡ true) × (cells ≡ cells_in all)
+    unfolding notes_ok first_follows
     checked-done done =
-        let none : (length ws - at) / 4 ≡ 0 = omega (arith, c.whole) in
+        let none : rest i ≡ [] = at_drop_all notes_of ws i done in
         (rw none at c.ok, omega (arith, rw none at c.count))
 
-    pub room_for_note : at < length ws → at + 4 ≤ length ws
-    room_for_note more = omega (arith, c.whole)
-
-    module _ (more : at < length ws) {n : Note} (is : n ≡ note_at ws at) where
-      cons : rest at ≡ n ∷ rest (at + 4)
-      cons =
-          let e : (length ws - at) / 4 ≡ suc ((length ws - (at + 4)) / 4) = omega (arith, c.whole) in
-          rw (e, notes_cons ((length ws - (at + 4)) / 4) ws at, is)
+    module _ (more : i < length ws) (d : List ℕ) {n : Note} (is : n ≡ note_at (get_or ws i d) 0) where
+      cons : rest i ≡ n ∷ rest (i + 1)
+      cons = note_behind ws i more d is
 
       pub not_ranged : note_ok δ beats n ≡ false → notes_ok δ beats all ≡ false
       unfolding notes_ok
-      not_ranged wrong = c.ok ∙ rw (cons, wrong) (and-false (first_follows m (n ∷ rest (at + 4))))
+      not_ranged wrong = c.ok ∙ rw (cons, wrong) (and-false (first_follows m (n ∷ rest (i + 1))))
 
       pub not_follows : follows m n ≡ false → notes_ok δ beats all ≡ false
       unfolding first_follows
       not_follows wrong = c.ok ∙ rw (cons, wrong)
 
       pub checked-note : (0 < δ) × (δ ≤ max_delta) × (beats ≤ max_beats) → note_ok δ beats n ≡ true → follows m n ≡ true
-          → {k : ℕ} → k ≡ length (cells_of_note δ n) → Checked n (cells + k) (at + 4)
+          → {k : ℕ} → k ≡ length (cells_of_note δ n) → Checked n (cells + k) (i + 1)
       unfolding notes_ok first_follows
       checked-note h right next {k} e =
           let r = fair δ beats n right in
           record {
-            whole = omega (arith, c.whole);
             ok = c.ok ∙ rw (cons, right, next);
-            count = omega (arith, rw cons at c.count, length-append (cells_of_note δ n) (gather (cells_of_note δ) (rest (at + 4))));
+            count = omega (arith, rw cons at c.count, length-append (cells_of_note δ n) (gather (cells_of_note δ) (rest (i + 1))));
             lane = r.lane_below;
             top = r.fits;
             few = further h r (follow m n next) e;
@@ -144,26 +137,23 @@ module _ (δ beats : ℕ) (ws : List ℕ) where
           further h r (later same behind) e =
               omega (arith, few_cells δ n (count_asks δ beats n h r), c.few, ap (λ (l : ℕ). l * (beats * δ)) same)
 
-    -- the count stays small
-    pub count_small : (0 < δ) × (δ ≤ max_delta) × (beats ≤ max_beats) → cells ≤ 549739036672
-    count_small h =
-        let most : m.lane ≤ 2047 = omega (arith, c.lane) in
-        let ticks : beats * δ ≤ 134213632 = mul-le-mul h.2 h.1 in
-        let lanes : m.lane * (beats * δ) ≤ 2047 * 134213632 = mul-le-mul most ticks in
-        omega (arith, c.few, c.top)
-
 -- ---- the answer
 
-module _ (h : Header) (beats : ℕ) (ws : List ℕ) where
-  pub not_whole : (length ws % 4 ≡ 0 → ⊥) → answer_of count_words (Err ListInOrder) ≡ list_asked h beats ws
-  unfolding list_asked list_ok
-  not_whole wrong = rw (ne_eqb (length ws % 4) 0 wrong)
+-- A list of words, as notes, and what is left of it behind them.
+module _ (h : Header) (beats : ℕ) (ws : List ℕ) {us : List (List ℕ)} (rest : List ℕ) (cut : us ≡ first_chunks 4 (length ws / 4) ws) (long : length rest ≡ length ws % 4) where
+  are : read_notes (length ws / 4) ws ≡ notes_of us
+  are = sym (ap notes_of cut ∙ whole_notes (length ws / 4) ws)
 
-  pub not_ok : notes_ok h.delta beats (read_notes (length ws / 4) ws) ≡ false → answer_of count_words (Err ListInOrder) ≡ list_asked h beats ws
+  module _ {p : Bool} (empty : p ≡ eqb (length rest) 0) where
+    pub not_whole : p ≡ false → answer_of count_words (Err ListInOrder) ≡ list_asked h beats ws
+    unfolding list_asked list_ok
+    not_whole wrong = rw (← long, ← empty, wrong)
+
+    pub counted : p ≡ true → notes_ok h.delta beats (notes_of us) ≡ true → (k : ℕ) → k ≡ length (gather (cells_of_note h.delta) (notes_of us))
+        → answer_of count_words (Ok k) ≡ list_asked h beats ws
+    unfolding list_asked list_ok listed cells_listed
+    counted whole right k e = rw (← long, ← empty, whole, are, right, e)
+
+  pub not_ok : notes_ok h.delta beats (notes_of us) ≡ false → answer_of count_words (Err ListInOrder) ≡ list_asked h beats ws
   unfolding list_asked list_ok listed
-  not_ok wrong = rw (wrong, and-false)
-
-  pub counted : length ws % 4 ≡ 0 → notes_ok h.delta beats (read_notes (length ws / 4) ws) ≡ true
-      → (k : ℕ) → k ≡ length (gather (cells_of_note h.delta) (read_notes (length ws / 4) ws)) → answer_of count_words (Ok k) ≡ list_asked h beats ws
-  unfolding list_asked list_ok listed cells_listed
-  counted whole right k e = rw (eq-eqb (length ws % 4) 0 whole, right, e)
+  not_ok wrong = rw (are, wrong, and-false)

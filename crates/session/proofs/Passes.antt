@@ -1,11 +1,13 @@
 -- Runs, and what is left behind one note, by the way that the code goes. Assumes nothing.
 use mathlib.Core.Path.{◌≡◌, refl, sym, ap, ◌∙◌}
-use mathlib.Core.Bool.{Bool, true, false, not}
+use mathlib.Core.Bool.{Bool, true, false}
 use mathlib.Core.List.{List, [], ◌∷◌, cons≢nil}
 use Rattle.std.specs.Prelude.{Option, Some, None}
-use Rattle.std.specs.Option.{is_some}
-use borrow.Author.Tests.{not-true, not-false}
 use Prim.Native.Nat.{ℕ}
+use borrow.Author.Tests.{ne_eqb}
+use native.Mathlib.Omega.{arith}
+use lib.Dec.{eqb}
+use lib.ListN.{length}
 use Rattle.model.specs.Pieces.{first_beat, inside}
 use Rattle.model.specs.declared.Header.{Header}
 use Rattle.model.specs.declared.Note.{Note}
@@ -14,8 +16,7 @@ use Rattle.laws.specs.Sweep.{skip, clear_two}
 use Rattle.session.specs.Checking.{given_by}
 use Rattle.session.specs.Passing.{fewer, passed_inner, passed_line, passed}
 use Rattle.session.specs.Running.{from_shown, from_last, note_of_run, same_note, behind_ends, behind_run}
-use Rattle.session.specs.Sliced.{first_cell}
-use Rattle.session.specs.declared.slices.Cells.{Cells}
+use Rattle.session.specs.Sliced.{cells_of}
 use Rattle.session.proofs.Tails.{link_none}
 use Rattle.session.proofs.Walks.{gives_nothing, gives_note, none_left, one_left}
 
@@ -50,10 +51,10 @@ given_one h cs {first} {last} f l {d} {rest} e = go first f l
     go [] f l = absurd (cons≢nil (sym e ∙ l ∙ link_none h))
     go (c ∷ more) f l = one_left h cs _ _ (gives_note h cs (c ∷ more) last f l c d more rest refl e)
 
-pub given_by_last : (h : Header) (cs : List Cell) {first last : List Cell} → first ≡ from_shown h cs → last ≡ from_last h first
-    → (r : Option (Cell × Cells)) → last ≡ first_cell r → {q : Bool} → is_some r ≡ not q → q ≡ given_by h [] cs
-given_by_last h cs f l None e {q} s = not-false q (sym s) ∙ sym (given_none h cs f l e)
-given_by_last h cs f l (Some p) e {q} s = not-true q (sym s) ∙ sym (given_one h cs f l e)
+pub given_by_last : (h : Header) (cs : List Cell) {first : List Cell} → first ≡ from_shown h cs → (ls : List (List ℕ)) → cells_of ls ≡ from_last h first
+    → {q : Bool} → q ≡ eqb (length ls) 0 → q ≡ given_by h [] cs
+given_by_last h cs f [] l s = s ∙ sym (given_none h cs f l refl)
+given_by_last h cs f (w ∷ ws) l s = s ∙ ne_eqb _ 0 (omega arith) ∙ sym (given_one h cs f l refl)
 
 module _ (h : Header) (n : Note) (cs ds : List Cell) where
   module _ {beat : ℕ} (is : beat ≡ first_beat h.delta n) {es : List Cell} (s : es ≡ skip n.lane beat cs) {p : Bool} (e : p ≡ clear_two h.delta n es) where

@@ -1,12 +1,13 @@
 -- Question 4 from its parts: the layout, the cells, and the notes beside the cells. Assumes nothing.
-use mathlib.Core.Path.{◌≡◌, refl, sym, ◌∙◌}
+use mathlib.Core.Path.{◌≡◌, refl, sym, ap, ◌∙◌}
 use mathlib.Core.Bool.{Bool, true, false, ◌&&◌}
 use mathlib.Core.List.{List}
-use Prim.Native.Nat.{ℕ, ◌+◌, ◌*◌, ◌-◌, ◌≤◌, ◌<◌}
+use Prim.Native.Nat.{ℕ, ◌+◌, ◌*◌, ◌-◌, ◌/◌, ◌≤◌, ◌<◌}
 use native.Mathlib.Omega.{arith}
 use borrow.Author.Tests.{leb-true}
 use lib.Dec.{eqb, leb}
 use lib.ListN.{length, take, drop}
+use Rattle.std.specs.Simd.{first_chunks}
 use Rattle.model.specs.Limits.{max_beats}
 use Rattle.model.specs.Lists.{every, keep}
 use Rattle.model.specs.Pieces.{inside}
@@ -20,7 +21,7 @@ use Rattle.laws.specs.Chain.{cell_ok, cells_sound}
 use Rattle.laws.specs.Linear.{notes_walked, linear_take, linear_shelf, linear_sound}
 use Rattle.laws.specs.Sweep.{sweep}
 use Rattle.session.specs.Checking.{given_by, standing, notes_asked}
-use Rattle.session.specs.Reading.{whole_notes, whole_cells}
+use Rattle.session.specs.Sliced.{notes_of, cells_of}
 use Rattle.session.proofs.Wholes.{part_notes, part_cells}
 
 -- what the layout gives
@@ -41,12 +42,14 @@ laid ws {p} e t =
 
 -- the parts of the words that are all notes, and all cells
 module _ (ws : List ℕ) (l : Laid ws) where
-  pub shelf_notes : whole_notes (take (3 + 4 * word ws 1 - 3) (drop 3 ws)) ≡ notes_in ws
-  shelf_notes = part_notes ws 3 (word ws 1) (3 + 4 * word ws 1 - 3) (omega arith) (omega (arith, l.fits))
+  pub shelf_notes : {ns : List (List ℕ)} → ns ≡ first_chunks 4 (length (take (3 + 4 * word ws 1 - 3) (drop 3 ws)) / 4) (take (3 + 4 * word ws 1 - 3) (drop 3 ws))
+      → notes_of ns ≡ notes_in ws
+  shelf_notes cut = ap notes_of cut ∙ part_notes ws 3 (word ws 1) (3 + 4 * word ws 1 - 3) (omega arith) (omega (arith, l.fits))
 
-  pub shelf_cells : {end : ℕ} → end ≡ words_used (word ws 1) (word ws 2)
-      → whole_cells (take (end - (3 + 4 * word ws 1)) (drop (3 + 4 * word ws 1) ws)) ≡ cells_in ws
-  shelf_cells {end} e = part_cells ws (3 + 4 * word ws 1) (word ws 2) (end - (3 + 4 * word ws 1)) (omega arith) (omega (arith, l.fits))
+  pub shelf_cells : {end : ℕ} → end ≡ words_used (word ws 1) (word ws 2) → {cs : List (List ℕ)}
+      → cs ≡ first_chunks 6 (length (take (end - (3 + 4 * word ws 1)) (drop (3 + 4 * word ws 1) ws)) / 6) (take (end - (3 + 4 * word ws 1)) (drop (3 + 4 * word ws 1) ws))
+      → cells_of cs ≡ cells_in ws
+  shelf_cells {end} e cut = ap cells_of cut ∙ part_cells ws (3 + 4 * word ws 1) (word ws 2) (end - (3 + 4 * word ws 1)) (omega arith) (omega (arith, l.fits))
 
 cells-first : (n e s w g : Bool) → n && e && s && w && g ≡ (e && s) && (n && (w && g))
 cells-first true true true w g = refl

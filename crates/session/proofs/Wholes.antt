@@ -1,109 +1,84 @@
--- Words that are whole notes or cells: the first one and those behind it. Assumes nothing.
+-- Notes and cells in slices of their words: what the words up to a place give, and a search among them. Assumes nothing.
 use mathlib.Core.Path.{◌≡◌, refl, sym, ap, subst, ◌∙◌}
-use mathlib.Core.Bool.{true, false}
-use mathlib.Core.List.{List, [], ◌∷◌, cons≢nil}
-use Prim.Native.Nat.{ℕ, zero, suc, ◌+◌, ◌*◌, ◌-◌, ◌/◌, ◌%◌, ◌≤◌, ◌<◌}
+use mathlib.Core.List.{List, [], ◌∷◌, map, cons≢nil}
+use Prim.Native.Nat.{ℕ, zero, suc, ◌+◌, ◌*◌, ◌-◌, ◌/◌, ◌≤◌, ◌<◌}
 use native.Mathlib.Omega.{arith}
-use lib.ListN.{length, take, drop, length-drop}
-use lib.Seq.{take_all}
-use lib.Dec.{ltb}
-use borrow.Author.Tests.{lt-ltb, le-ltb}
-use native.Mathlib.Nat.{div-add-mod'}
-use Rattle.laws.specs.Reading.{length-cells}
-use Rattle.session.specs.Passing.{fewer}
-use Rattle.words.specs.Parts.{length_part}
-use Rattle.model.specs.Takes.{read_notes, read_cells}
-use Rattle.model.specs.declared.Cell.{Cell}
+use lib.ListN.{length, take, drop, get_or}
+use Rattle.std.proofs.lemmas.List.{length-map, get_or-take, take-take, drop-take, at_drop_more}
+use Rattle.std.specs.Simd.{first_chunks}
 use Rattle.laws.specs.Sweep.{skip}
+use Rattle.model.specs.Takes.{read_notes, read_cells}
+use Rattle.model.specs.declared.Note.{Note}
+use Rattle.model.specs.declared.Cell.{Cell}
+use Rattle.words.specs.Parts.{length_part}
 use Rattle.session.proofs.Lasts.{no_cells, length_last, last_cells_lem}
 use Rattle.session.proofs.Tails.{Tail, Tail.here, Tail.there, tail_shorter, skip_tail}
-use Rattle.session.specs.Reading.{note_at, cell_at, whole_notes, whole_cells, last_cells}
+use Rattle.session.specs.Reading.{note_at, cell_at, last_cells}
+use Rattle.session.specs.Sliced.{notes_of, cells_of}
 
-module _ (ws : List ℕ) where
-  pub no_note : length ws < 4 → whole_notes ws ≡ []
-  unfolding whole_notes read_notes
-  no_note few = let e : length ws / 4 ≡ 0 = omega arith in rw e
+-- ---- words as arrays
 
-  pub note_first : 4 ≤ length ws → whole_notes ws ≡ note_at ws 0 ∷ whole_notes (take (length ws - 4) (drop 4 ws))
-  unfolding whole_notes read_notes note_at
-  note_first some =
-      let e : length ws / 4 ≡ suc ((length ws - 4) / 4) = omega arith in
-      let l : length (drop 4 ws) ≡ length ws - 4 = length-drop 4 ws in
-      let t : take (length ws - 4) (drop 4 ws) ≡ drop 4 ws = take_all (length ws - 4) (drop 4 ws) (omega (arith, l)) in
-      rw (e, t, l) refl
+-- The first arrays of a list's first words are the first arrays of the list.
+chunks_ahead : (n k m : ℕ) (ws : List ℕ) → n * k ≤ m → first_chunks n k (take m ws) ≡ first_chunks n k ws
+chunks_ahead n zero m ws h = refl
+chunks_ahead n (suc k) m ws h =
+    let e : n * suc k ≡ n + n * k = omega arith in
+    let rest : m ≡ n + (m - n) = omega arith in
+    let first : take n (take m ws) ≡ take n ws = take-take n m ws (omega arith) in
+    let behind : drop n (take m ws) ≡ take (m - n) (drop n ws) = ap (λ (i : ℕ). drop n (take i ws)) rest ∙ drop-take n (m - n) ws in
+    rw (first, behind, chunks_ahead n k (m - n) (drop n ws) (omega arith))
 
-  pub no_cell : length ws < 6 → whole_cells ws ≡ []
-  unfolding whole_cells read_cells
-  no_cell few = let e : length ws / 6 ≡ 0 = omega arith in rw e
+-- So are those of a part, if the part has the words of so many.
+pub part_chunks : (n : ℕ) (ws : List ℕ) (at k m : ℕ) → m / n ≡ k → n * k ≤ m → at + m ≤ length ws
+    → first_chunks n (length (take m (drop at ws)) / n) (take m (drop at ws)) ≡ first_chunks n k (drop at ws)
+part_chunks n ws at k m q h fits = rw (length_part ws at m fits, q) (chunks_ahead n k m (drop at ws) h)
 
-  pub cell_first : 6 ≤ length ws → whole_cells ws ≡ cell_at ws 0 ∷ whole_cells (take (length ws - 6) (drop 6 ws))
-  unfolding whole_cells read_cells cell_at
-  cell_first some =
-      let e : length ws / 6 ≡ suc ((length ws - 6) / 6) = omega arith in
-      let l : length (drop 6 ws) ≡ length ws - 6 = length-drop 6 ws in
-      let t : take (length ws - 6) (drop 6 ws) ≡ drop 6 ws = take_all (length ws - 6) (drop 6 ws) (omega (arith, l)) in
-      rw (e, t, l) refl
+-- What is read of a list n words at a time, each time from those n words alone, is what its arrays of n words give.
+module _ {X : Type 0} (n : ℕ) (one : List ℕ → X) (all : ℕ → List ℕ → List X) (none : (ws : List ℕ) → all 0 ws ≡ [])
+    (more : (k : ℕ) (ws : List ℕ) → all (suc k) ws ≡ one (take n ws) ∷ all k (drop n ws)) where
+  chunks_read : (k : ℕ) (ws : List ℕ) → map one (first_chunks n k ws) ≡ all k ws
+  chunks_read zero ws = sym (none ws)
+  chunks_read (suc k) ws = ap (◌∷◌ (one (take n ws))) (chunks_read k (drop n ws)) ∙ sym (more k ws)
 
-pub length_whole : (ws : List ℕ) → length (whole_cells ws) ≡ length ws / 6
-unfolding whole_cells
-length_whole ws = length-cells (length ws / 6) ws
+note_more : (k : ℕ) (ws : List ℕ) → read_notes (suc k) ws ≡ note_at (take 4 ws) 0 ∷ read_notes k (drop 4 ws)
+unfolding read_notes note_at
+note_more k ws = rw (get_or-take 4 ws 0 0 (omega arith), get_or-take 4 ws 1 0 (omega arith), get_or-take 4 ws 2 0 (omega arith), get_or-take 4 ws 3 0 (omega arith))
 
--- the fewer of two
-module _ (ws vs : List ℕ) (e : length ws % 6 ≡ 0) (f : length vs % 6 ≡ 0) where
-  pub fewer_first : length ws < length vs → whole_cells ws ≡ fewer (whole_cells ws) (whole_cells vs)
-  unfolding fewer
-  fewer_first less =
-      let t : ltb (length (whole_cells ws)) (length (whole_cells vs)) ≡ true =
-      lt-ltb _ _ (omega (arith, length_whole ws, length_whole vs, div-add-mod' (length ws) 6, div-add-mod' (length vs) 6)) in
-      rw (fewer, t)
+cell_more : (k : ℕ) (ws : List ℕ) → read_cells (suc k) ws ≡ cell_at (take 6 ws) 0 ∷ read_cells k (drop 6 ws)
+unfolding read_cells cell_at
+cell_more k ws =
+    rw (
+      get_or-take 6 ws 0 0 (omega arith),
+      get_or-take 6 ws 1 0 (omega arith),
+      get_or-take 6 ws 2 0 (omega arith),
+      get_or-take 6 ws 3 0 (omega arith),
+      get_or-take 6 ws 4 0 (omega arith),
+      get_or-take 6 ws 5 0 (omega arith),
+    )
 
-  pub fewer_second : length vs ≤ length ws → whole_cells vs ≡ fewer (whole_cells ws) (whole_cells vs)
-  unfolding fewer
-  fewer_second le =
-      let t : ltb (length (whole_cells ws)) (length (whole_cells vs)) ≡ false =
-      le-ltb _ _ (omega (arith, length_whole ws, length_whole vs, div-add-mod' (length ws) 6, div-add-mod' (length vs) 6)) in
-      rw (fewer, t)
-
--- ---- words up to a place
-
-pub read_note_words : (k : ℕ) (ws : List ℕ) → 4 * k ≤ length ws → read_notes k (take (4 * k) ws) ≡ read_notes k ws
+pub whole_notes : (k : ℕ) (ws : List ℕ) → notes_of (first_chunks 4 k ws) ≡ read_notes k ws
 unfolding read_notes
-read_note_words zero ws h = refl
-read_note_words (suc k) [] h = absurd (omega arith)
-read_note_words (suc k) (a ∷ []) h = absurd (omega arith)
-read_note_words (suc k) (a ∷ b ∷ []) h = absurd (omega arith)
-read_note_words (suc k) (a ∷ b ∷ c ∷ []) h = absurd (omega arith)
-read_note_words (suc k) (a ∷ b ∷ c ∷ d ∷ ws) h =
-    let m : 4 * suc k ≡ suc (suc (suc (suc (4 * k)))) = omega arith in
-    rw m (ap (◌∷◌ (record { lane = a; start = b; end = c; velocity = d })) (read_note_words k ws (omega arith)))
+whole_notes = chunks_read 4 (λ w. note_at w 0) read_notes (λ ws. refl) note_more
 
-pub read_cell_words : (k : ℕ) (ws : List ℕ) → 6 * k ≤ length ws → read_cells k (take (6 * k) ws) ≡ read_cells k ws
+pub whole_cells : (k : ℕ) (ws : List ℕ) → cells_of (first_chunks 6 k ws) ≡ read_cells k ws
 unfolding read_cells
-read_cell_words zero ws h = refl
-read_cell_words (suc k) [] h = absurd (omega arith)
-read_cell_words (suc k) (a ∷ []) h = absurd (omega arith)
-read_cell_words (suc k) (a ∷ b ∷ []) h = absurd (omega arith)
-read_cell_words (suc k) (a ∷ b ∷ c ∷ []) h = absurd (omega arith)
-read_cell_words (suc k) (a ∷ b ∷ c ∷ d ∷ []) h = absurd (omega arith)
-read_cell_words (suc k) (a ∷ b ∷ c ∷ d ∷ e ∷ []) h = absurd (omega arith)
-read_cell_words (suc k) (a ∷ b ∷ c ∷ d ∷ e ∷ f ∷ ws) h =
-    let m : 6 * suc k ≡ suc (suc (suc (suc (suc (suc (6 * k)))))) = omega arith in
-    rw m (ap (◌∷◌ (record { lane = a; beat = b; side = c; before = d; after = e; velocity = f })) (read_cell_words k ws (omega arith)))
+whole_cells = chunks_read 6 (λ w. cell_at w 0) read_cells (λ ws. refl) cell_more
 
-module _ (ws : List ℕ) (at k : ℕ) where
-  pub part_notes : (n : ℕ) → n ≡ 4 * k → at + n ≤ length ws → whole_notes (take n (drop at ws)) ≡ read_notes k (drop at ws)
-  unfolding whole_notes
-  part_notes n e fits =
-      let l : length (take n (drop at ws)) ≡ n = length_part ws at n fits in
-      let q : length (take n (drop at ws)) / 4 ≡ k = omega arith in
-      rw (q, e) (read_note_words k (drop at ws) (omega (arith, length-drop at ws)))
+module _ (ws : List ℕ) (at k m : ℕ) where
+  pub part_notes : m ≡ 4 * k → at + m ≤ length ws → notes_of (first_chunks 4 (length (take m (drop at ws)) / 4) (take m (drop at ws))) ≡ read_notes k (drop at ws)
+  part_notes e fits = ap notes_of (part_chunks 4 ws at k m (omega arith) (omega arith) fits) ∙ whole_notes k (drop at ws)
 
-  pub part_cells : (n : ℕ) → n ≡ 6 * k → at + n ≤ length ws → whole_cells (take n (drop at ws)) ≡ read_cells k (drop at ws)
-  unfolding whole_cells
-  part_cells n e fits =
-      let l : length (take n (drop at ws)) ≡ n = length_part ws at n fits in
-      let q : length (take n (drop at ws)) / 6 ≡ k = omega arith in
-      rw (q, e) (read_cell_words k (drop at ws) (omega (arith, length-drop at ws)))
+  pub part_cells : m ≡ 6 * k → at + m ≤ length ws → cells_of (first_chunks 6 (length (take m (drop at ws)) / 6) (take m (drop at ws))) ≡ read_cells k (drop at ws)
+  part_cells e fits = ap cells_of (part_chunks 6 ws at k m (omega arith) (omega arith) fits) ∙ whole_cells k (drop at ws)
+
+-- ---- what is left from array i on
+
+module _ (ws : List (List ℕ)) (i : ℕ) (more : i < length ws) (d : List ℕ) where
+  pub note_behind : {n : Note} → n ≡ note_at (get_or ws i d) 0 → notes_of (drop i ws) ≡ n ∷ notes_of (drop (i + 1) ws)
+  note_behind is = at_drop_more notes_of ws i d more ∙ ap (λ (m : Note). m ∷ notes_of (drop (i + 1) ws)) (sym is)
+
+  pub cell_behind : {c : Cell} → c ≡ cell_at (get_or ws i d) 0 → cells_of (drop i ws) ≡ c ∷ cells_of (drop (i + 1) ws)
+  cell_behind is = at_drop_more cells_of ws i d more ∙ ap (λ (c : Cell). c ∷ cells_of (drop (i + 1) ws)) (sym is)
 
 -- ---- a search among the last cells up to a place
 
@@ -120,14 +95,15 @@ module _ (ws : List ℕ) (end : ℕ) where
       one : suc k - 1 ≡ k
       one = omega arith
 
-  pub found_from : (k : ℕ) → 6 * k ≤ end → end ≤ length ws → (l b : ℕ) (us : List ℕ)
-      → whole_cells us ≡ skip l b (whole_cells (take (end - (end - 6 * k)) (drop (end - 6 * k) ws)))
-      → (last_cells ws end (length us / 6) ≡ skip l b (last_cells ws end k)) × (length us / 6 ≤ k)
+  pub found_from : (k : ℕ) → 6 * k ≤ end → end ≤ length ws → (l b : ℕ) {all : List (List ℕ)} (us : List (List ℕ))
+      → all ≡ first_chunks 6 (length (take (end - (end - 6 * k)) (drop (end - 6 * k) ws)) / 6) (take (end - (end - 6 * k)) (drop (end - 6 * k) ws))
+      → cells_of us ≡ skip l b (cells_of all)
+      → (last_cells ws end (length us) ≡ skip l b (last_cells ws end k)) × (length us ≤ k)
   unfolding last_cells
-  found_from k fits within l b us e =
-      let all = whole_cells (take (end - (end - 6 * k)) (drop (end - 6 * k) ws)) in
-      let is : all ≡ last_cells ws end k = part_cells ws (end - 6 * k) k (end - (end - 6 * k)) (omega arith) (omega arith) in
-      let t : Tail all (whole_cells us) = subst (Tail all) (sym e) (skip_tail l b all) in (
-        ap (last_cells ws end) (sym (length_whole us)) ∙ last_tail k fits t is ∙ e ∙ ap (skip l b) is,
-        omega (arith, tail_shorter t, length_whole us, ap length is, length_last ws end k),
+  found_from k fits within l b {all} us cut e =
+      let is : cells_of all ≡ last_cells ws end k = ap cells_of cut ∙ part_cells ws (end - 6 * k) k (end - (end - 6 * k)) (omega arith) (omega arith) in
+      let long : length (cells_of us) ≡ length us = length-map us (λ w. cell_at w 0) in
+      let t : Tail (cells_of all) (cells_of us) = subst (Tail (cells_of all)) (sym e) (skip_tail l b (cells_of all)) in (
+        ap (last_cells ws end) (sym long) ∙ last_tail k fits t is ∙ e ∙ ap (skip l b) is,
+        omega (arith, tail_shorter t, long, ap length is, length_last ws end k),
       )

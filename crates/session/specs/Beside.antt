@@ -6,4 +6,4 @@ use Rattle.session.specs.declared.sound.Left.{Left}
 
 abbrev pub left_of : Option Left → Option (List Cell × List Cell)
 left_of None = None
-left_of (Some l) = Some (cells_of l.beside, cells_of l.line)
+left_of (Some l) = Some (cells_of l.beside.now, cells_of l.line.now)

@@ -1,5 +1,5 @@
 -- The note and the cell at a place of a list of words, and the notes and cells up to a place. Assumes nothing.
-use Rattle.std.specs.Prelude.{ℕ, ◌+◌, ◌*◌, ◌-◌, ◌/◌, List, drop, length}
+use Rattle.std.specs.Prelude.{ℕ, ◌+◌, ◌*◌, ◌-◌, List, drop}
 use Rattle.model.specs.Takes.{word, read_notes, read_cells}
 use Rattle.model.specs.declared.Note.{Note}
 use Rattle.model.specs.declared.Cell.{Cell}
@@ -25,12 +25,3 @@ last_notes ws end k = read_notes k (drop (end - 4 * k) ws)
 unfoldable pub last_cells : List ℕ → ℕ → ℕ → List Cell
 unfolding read_cells
 last_cells ws end k = read_cells k (drop (end - 6 * k) ws)
-
--- The notes of words, four words each, and the cells, six words each.
-unfoldable pub whole_notes : List ℕ → List Note
-unfolding read_notes
-whole_notes ws = read_notes (length ws / 4) ws
-
-unfoldable pub whole_cells : List ℕ → List Cell
-unfolding read_cells
-whole_cells ws = read_cells (length ws / 6) ws

@@ -7,7 +7,7 @@ ghost use Rattle.session.specs.Reading.{last_cells};
 ghost use Rattle.session.specs.Sliced.{cells_of};
 
 use crate::rules;
-use crate::slices::Cells;
+use crate::slices::{CellWords, first_cell, from_first};
 use model::{Cell, Note};
 
 // Does the cell lie before the beat of the lane?
@@ -18,10 +18,10 @@ fn is_earlier(lane: u32, beat: u32, c: Cell) -> bool
 }
 
 // The cells from beat `beat` of the lane on.
-pub fn from_beat(cells: Cells, lane: u32, beat: u32) -> Cells
-    ensures { cells_of result ≡ skip lane beat (cells_of cells.entry) }
+pub fn from_beat(cells: &[CellWords], lane: u32, beat: u32) -> &[CellWords]
+    ensures { cells_of result.now ≡ skip lane beat (cells_of cells.now) }
 {
-    cells.from_first(|c, _| !is_earlier(lane, beat, c))
+    from_first(cells, |c, _| !is_earlier(lane, beat, c))
 }
 
 // The same among the last `left` cells up to place `end`: how many are left from that cell on. A later search goes on from there.
@@ -29,11 +29,8 @@ pub fn cells_from(part: &[u32], end: usize, left: usize, lane: u32, beat: u32) -
     requires { (6 * left ≤ end) × (end ≤ length part.now) }
     ensures { (last_cells part.now end result ≡ skip lane beat (last_cells part.now end left)) × (result ≤ left) }
 {
-    let cells = Cells {
-        words: &part[end - 6 * left..end],
-    };
-    let found = from_beat(cells, lane, beat);
-    found.words.len() / 6
+    let (cells, _) = part[end - 6 * left..end].as_chunks::<6>();
+    from_beat(cells, lane, beat).len()
 }
 
 // Are the note, which starts in beat `beat`, and the cell's piece apart?
@@ -53,14 +50,14 @@ fn is_clear(delta: u32, beat: u32, n: Note, c: Cell) -> bool
 }
 
 // Is the note clear of the first two cells? A beat of a lane has no more than two.
-pub fn is_clear_of_two(delta: u32, beat: u32, n: Note, cells: Cells) -> bool
+pub fn is_clear_of_two(delta: u32, beat: u32, n: Note, cells: &[CellWords]) -> bool
     requires { (0 < delta) × (beat ≡ first_beat delta n) }
-    ensures { result ≡ clear_two delta n (cells_of cells.entry) }
+    ensures { result ≡ clear_two delta n (cells_of cells.now) }
 {
-    let Some((c, behind)) = cells.split_first() else {
+    let Some((c, behind)) = first_cell(cells) else {
         return true;
     };
-    let Some((d, _)) = behind.split_first() else {
+    let Some((d, _)) = first_cell(behind) else {
         return is_clear(delta, beat, n, c);
     };
     is_clear(delta, beat, n, c) && is_clear(delta, beat, n, d)

@@ -16,3 +16,4 @@ pub mod runs;
 pub mod shelf;
 pub mod slices;
 pub mod sound;
+pub mod view;

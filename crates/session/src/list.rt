@@ -6,22 +6,24 @@ ghost use Rattle.session.specs.Listing.{count_words, list_asked};
 
 use crate::beats::Divisor;
 use crate::notes;
-use model::Header;
 use model::questions::Question;
+use model::{Header, Note};
 
 // Are they whole notes, in range, in order and without overlap in a lane? One pass, which also counts their cells.
 pub fn check_list(h: Header, beats: u32, list: &[u32]) -> Result<u64, Question>
     requires { (0 < h.delta) × (h.delta ≤ max_delta) × (beats ≤ max_beats) }
     ensures { answer_of count_words result ≡ list_asked h beats list.now }
 {
-    if list.len() % 4 != 0 {
+    let (notes, rest) = list.as_chunks::<4>();
+    if !rest.is_empty() {
         return Err(Question::ListInOrder);
     }
     let by = Divisor::new(h.delta);
-    let mut last = notes::before_all();
+    // Every note may stand behind this one.
+    let mut last = Note::default();
     let mut cells: u64 = 0;
-    for at in (0..list.len()).step_by(4) {
-        let note = notes::note_at(list, at);
+    for words in notes {
+        let note = notes::note_at(words, 0);
         if !notes::note_ok(h.delta, beats, note) {
             return Err(Question::ListInOrder);
         }

@@ -6,7 +6,7 @@ ghost use Rattle.model.specs.Soundness.{cell_in_range, has_ticks, memory_within,
 ghost use Rattle.laws.specs.Chain.{cell_ok, neighbours, cells_sound};
 ghost use Rattle.session.specs.Sliced.{cells_of};
 
-use crate::slices::Cells;
+use crate::slices::{CellWords, first_cell};
 use crate::{notes, rules};
 use model::{Cell, Header};
 use std::cmp::Ordering;
@@ -116,17 +116,18 @@ fn next_ok(delta: u32, beats: u32, c: Cell, d: Cell) -> bool
 }
 
 // What is asked of the cells.
-pub fn cells_ok(delta: u32, beats: u32, cells: Cells) -> bool
-    ensures { result ≡ (every (cell_ok delta beats) (cells_of cells.entry) && cells_sound delta (cells_of cells.entry)) }
+pub fn cells_ok(delta: u32, beats: u32, cells: &[CellWords]) -> bool
+    ensures { result ≡ (every (cell_ok delta beats) (cells_of cells.now) && cells_sound delta (cells_of cells.now)) }
 {
-    let Some((first, behind)) = cells.split_first() else {
+    let Some((first, behind)) = first_cell(cells) else {
         return true;
     };
     if !first_ok(delta, beats, first) {
         return false;
     }
     let mut last = first;
-    for c in behind {
+    for words in behind {
+        let c = notes::cell_at(words, 0);
         if !next_ok(delta, beats, last, c) {
             return false;
         }

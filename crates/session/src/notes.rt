@@ -2,7 +2,6 @@
 ghost use Rattle.std.specs.Prelude.{◌≡◌, ◌+◌, ◌≤◌, length};
 ghost use Rattle.model.specs.Limits.{max_beats, max_delta, velocity_ok};
 ghost use Rattle.model.specs.Soundness.{note_ok, follows};
-ghost use Rattle.session.specs.Checking.{before_all};
 ghost use Rattle.session.specs.Reading.{note_at, cell_at};
 
 use crate::rules;
@@ -61,16 +60,4 @@ pub fn note_follows(m: Note, n: Note) -> bool
     ensures { result ≡ follows m n }
 {
     rules::lane_order(m.lane, m.end) <= rules::lane_order(n.lane, n.start)
-}
-
-// A note that every note may stand behind.
-pub fn before_all() -> Note
-    ensures { result ≡ before_all }
-{
-    Note {
-        lane: 0,
-        start: 0,
-        end: 0,
-        velocity: 0,
-    }
 }

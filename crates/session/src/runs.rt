@@ -7,41 +7,41 @@ ghost use Rattle.session.specs.Running.{from_shown, from_last, note_of_run, same
 ghost use Rattle.session.specs.Sliced.{cells_of, cells_of_option};
 
 use crate::rules;
-use crate::slices::Cells;
+use crate::slices::{CellWords, first_cell, from_first};
 use model::{Cell, Header, Note};
 
 // Does the cell's piece go on in the next cell: are they one piece, or bound?
-fn is_linked(h: Header, c: Cell, behind: Cells) -> bool
-    ensures { result ≡ linked h c (cells_of behind.entry) }
+fn is_linked(h: Header, c: Cell, behind: &[CellWords]) -> bool
+    ensures { result ≡ linked h c (cells_of behind.now) }
 {
     if c.side == 0 {
         return h.delta <= c.after;
     }
-    let Some((d, _)) = behind.split_first() else {
+    let Some((d, _)) = first_cell(behind) else {
         return false;
     };
     rules::meets(c, d) && rules::is_bound(h, c, d)
 }
 
 // Is the cell's piece shown, if no piece before it is linked to it?
-fn is_shown(h: Header, c: Cell, behind: Cells) -> bool
-    ensures { result ≡ (stands_alone h c || linked h c (cells_of behind.entry)) }
+fn is_shown(h: Header, c: Cell, behind: &[CellWords]) -> bool
+    ensures { result ≡ (stands_alone h c || linked h c (cells_of behind.now)) }
 {
     rules::stands_alone(h, c) || is_linked(h, c, behind)
 }
 
 // Passes hidden pieces: the cells from the first of the next run on, or none.
-pub fn first_of_run(h: Header, cells: Cells) -> Cells
-    ensures { cells_of result ≡ from_shown h (cells_of cells.entry) }
+pub fn first_of_run(h: Header, cells: &[CellWords]) -> &[CellWords]
+    ensures { cells_of result.now ≡ from_shown h (cells_of cells.now) }
 {
-    cells.from_first(|c, behind| is_shown(h, c, behind))
+    from_first(cells, |c, behind| is_shown(h, c, behind))
 }
 
 // Passes linked cells: the cells from the last of the run on, or none if the cells end with a linked one.
-pub fn last_of_run(h: Header, cells: Cells) -> Cells
-    ensures { cells_of result ≡ from_last h (cells_of cells.entry) }
+pub fn last_of_run(h: Header, cells: &[CellWords]) -> &[CellWords]
+    ensures { cells_of result.now ≡ from_last h (cells_of cells.now) }
 {
-    cells.from_first(|c, behind| !is_linked(h, c, behind))
+    from_first(cells, |c, behind| !is_linked(h, c, behind))
 }
 
 // Is n the note of a run from the piece of cell c to the piece of cell d?
@@ -56,12 +56,12 @@ pub fn is_note_of_run(delta: u32, n: Note, c: Cell, d: Cell) -> bool
 }
 
 // The cells behind the next run, if n is its note.
-pub fn behind_run(h: Header, n: Note, cells: Cells) -> Option<Cells>
-    ensures { cells_of_option result ≡ behind_run h n (cells_of cells.entry) }
+pub fn behind_run(h: Header, n: Note, cells: &[CellWords]) -> Option<&[CellWords]>
+    ensures { cells_of_option result ≡ behind_run h n (cells_of cells.now) }
 {
     let first = first_of_run(h, cells);
-    let (c, _) = first.split_first()?;
-    let (d, behind) = last_of_run(h, first).split_first()?;
+    let (c, _) = first_cell(first)?;
+    let (d, behind) = first_cell(last_of_run(h, first))?;
     if !is_note_of_run(h.delta, n, c, d) {
         return None;
     }
@@ -69,9 +69,8 @@ pub fn behind_run(h: Header, n: Note, cells: Cells) -> Option<Cells>
 }
 
 // Do the cells give no note?
-pub fn gives_none(h: Header, cells: Cells) -> bool
-    ensures { result ≡ given_by h [] (cells_of cells.entry) }
+pub fn gives_none(h: Header, cells: &[CellWords]) -> bool
+    ensures { result ≡ given_by h [] (cells_of cells.now) }
 {
-    let last = last_of_run(h, first_of_run(h, cells));
-    last.split_first().is_none()
+    last_of_run(h, first_of_run(h, cells)).is_empty()
 }

@@ -1,129 +1,54 @@
-// Notes and cells in a slice of words.
-ghost use Rattle.std.specs.Prelude.{◌≡◌, ◌%◌, length};
+// Notes and cells in words, as slices of arrays: the library cuts the words of a shelf into them.
+ghost use Rattle.std.specs.Prelude.{◌≡◌, ℕ, Bool, List};
+ghost use Rattle.std.specs.Borrow.{Bor};
+ghost use Rattle.model.specs.declared.Cell.{Cell};
+ghost use Rattle.session.specs.Passing.{fewer};
+ghost use Rattle.session.specs.Running.{from_first};
+ghost use Rattle.session.specs.Sliced.{cells_of, first_cell};
 
-use model::{Cell, Note};
+use crate::notes;
+use model::Cell;
 
-// Words that are whole notes.
-#[derive(Clone, Copy)]
-pub struct Notes<'a> {
-    pub words: &'a [u32],
-    pub ghost whole: { length words.now % 4 ≡ 0 },
+// The words of a note.
+pub type NoteWords = [u32; 4];
+
+// The words of a cell.
+pub type CellWords = [u32; 6];
+
+// The first cell and those behind it; none if there is none.
+pub(crate) fn first_cell(cells: &[CellWords]) -> Option<(Cell, &[CellWords])>
+    ensures { cells_of cells.now ≡ first_cell result }
+{
+    let (words, behind) = cells.split_first()?;
+    Some((notes::cell_at(words, 0), behind))
 }
 
-// Words that are whole cells.
-#[derive(Clone, Copy)]
-pub struct Cells<'a> {
-    pub words: &'a [u32],
-    pub ghost whole: { length words.now % 6 ≡ 0 },
-}
-
-impl<'a> Notes<'a> {
-    ghost use Rattle.session.specs.Sliced.{notes_of, first_note};
-
-    // The first note and those behind it; none if there is none.
-    pub fn split_first(self) -> Option<(Note, Notes<'a>)>
-        ensures { notes_of self.entry ≡ first_note result }
-    {
-        match self.words {
-            [lane, start, end, velocity, words @ ..] => {
-                let n = Note {
-                    lane: *lane,
-                    start: *start,
-                    end: *end,
-                    velocity: *velocity,
-                };
-                Some((n, Notes { words }))
-            }
-            _ => None,
+// The cells from the first one on at which the test holds, or none. The test is given a cell and those behind it.
+pub(crate) fn from_first<'a, F: Fn(Cell, &'a [CellWords]) -> bool>(
+    cells: &'a [CellWords],
+    test: F,
+) -> &'a [CellWords]
+    requires { F.IsAlwaysCallable test }
+    ensures { (p : Cell → List Cell → Bool) → ((c : Cell) (behind : Bor (List (List ℕ))) (r : Bool) → F.post test c behind r → r ≡ p c (cells_of behind.now)) → cells_of result.now ≡ from_first p (cells_of cells.now) }
+{
+    let mut left = cells;
+    while let Some((c, behind)) = first_cell(left) {
+        if test(c, behind) {
+            return left;
         }
+        left = behind;
     }
+    left
 }
 
-impl<'a> Cells<'a> {
-    ghost use Rattle.std.specs.Prelude.{Bool, List};
-    ghost use Rattle.model.specs.declared.Cell.{Cell};
-    ghost use Rattle.session.specs.Passing.{fewer};
-    ghost use Rattle.session.specs.Running.{from_first};
-    ghost use Rattle.session.specs.Sliced.{cells_of, first_cell};
-    ghost use Rattle.session.specs.declared.slices.Cells.{Cells};
-
-    // The first cell and those behind it; none if there is none.
-    pub fn split_first(self) -> Option<(Cell, Cells<'a>)>
-        ensures { cells_of self.entry ≡ first_cell result }
-    {
-        match self.words {
-            [lane, beat, side, before, after, velocity, words @ ..] => {
-                let c = Cell {
-                    lane: *lane,
-                    beat: *beat,
-                    side: *side,
-                    before: *before,
-                    after: *after,
-                    velocity: *velocity,
-                };
-                Some((c, Cells { words }))
-            }
-            _ => None,
-        }
-    }
-
-    // The cells from the first one on at which the test holds, or none. The test is given a cell and those behind it.
-    pub fn from_first<F: Fn(Cell, Cells<'a>) -> bool>(self, test: F) -> Cells<'a>
-        requires { F.IsAlwaysCallable test }
-        ensures { (p : Cell → List Cell → Bool) → ((c : Cell) (behind : Cells) (r : Bool) → F.post test c behind r → r ≡ p c (cells_of behind)) → cells_of result ≡ from_first p (cells_of self.entry) }
-    {
-        let mut left = self;
-        while let Some((c, behind)) = left.split_first() {
-            if test(c, behind) {
-                return left;
-            }
-            left = behind;
-        }
-        left
-    }
-
-    // These cells, if they are fewer than the others; else the others.
-    pub fn or_fewer(self, others: Cells<'a>) -> Cells<'a>
-        ensures { cells_of result ≡ fewer (cells_of self.entry) (cells_of others.entry) }
-    {
-        if self.words.len() < others.words.len() {
-            self
-        } else {
-            others
-        }
-    }
-}
-
-impl<'a> Iterator for Notes<'a> {
-    ghost use Rattle.session.specs.Sliced.{notes_of, NoteGiven};
-    ghost use Rattle.std.specs.Iterator.{at_most};
-
-    type Item = Note;
-
-    ghost next_gives = { NoteGiven };
-
-    ghost remaining = { λ ns. at_most (length (notes_of ns)) };
-
-    fn next(&mut self) -> Option<Note> {
-        let (n, behind) = self.split_first()?;
-        *self = behind;
-        Some(n)
-    }
-}
-
-impl<'a> Iterator for Cells<'a> {
-    ghost use Rattle.session.specs.Sliced.{cells_of, CellGiven};
-    ghost use Rattle.std.specs.Iterator.{at_most};
-
-    type Item = Cell;
-
-    ghost next_gives = { CellGiven };
-
-    ghost remaining = { λ cs. at_most (length (cells_of cs)) };
-
-    fn next(&mut self) -> Option<Cell> {
-        let (c, behind) = self.split_first()?;
-        *self = behind;
-        Some(c)
+// These cells, if they are fewer than the others; else the others.
+#[tactic(auto, unfolding(crate::specs::Passing::fewer))]
+pub(crate) fn fewer<'a>(cells: &'a [CellWords], others: &'a [CellWords]) -> &'a [CellWords]
+    ensures { cells_of result.now ≡ fewer (cells_of cells.now) (cells_of others.now) }
+{
+    if cells.len() < others.len() {
+        cells
+    } else {
+        others
     }
 }

@@ -11,7 +11,7 @@ ghost use Rattle.session.specs.Sliced.{notes_of, cells_of};
 ghost use Rattle.session.specs.Beside.{left_of};
 
 use crate::beats::Divisor;
-use crate::slices::{Cells, Notes};
+use crate::slices::{CellWords, NoteWords, fewer};
 use crate::{clear, layout, neighbours, notes, rules, runs};
 use model::{Header, Note};
 
@@ -19,15 +19,15 @@ use model::{Header, Note};
 #[derive(Clone, Copy)]
 pub struct Left<'a> {
     // For the search beside the next note that touches no line.
-    pub beside: Cells<'a>,
+    pub beside: &'a [CellWords],
     // For the run of the next note at a line.
-    pub line: Cells<'a>,
+    pub line: &'a [CellWords],
 }
 
 // A note that touches no line: is it clear of the pieces in its beat? The cells that are left behind it.
 fn pass_inner(h: Header, n: Note, beat: u32, left: Left) -> Option<Left>
     requires { (0 < h.delta) × (beat ≡ first_beat h.delta n) }
-    ensures { left_of result ≡ passed_inner h n (cells_of left.entry.beside) (cells_of left.entry.line) }
+    ensures { left_of result ≡ passed_inner h n (cells_of left.entry.beside.now) (cells_of left.entry.line.now) }
 {
     let beside = clear::from_beat(left.beside, n.lane, beat);
     if !clear::is_clear_of_two(h.delta, beat, n, beside) {
@@ -42,11 +42,11 @@ fn pass_inner(h: Header, n: Note, beat: u32, left: Left) -> Option<Left>
 // A note touching or crossing a line: is it the next run of the cells? The notes behind it lie behind the run, so the search beside
 // them goes on there.
 fn pass_line(h: Header, n: Note, left: Left) -> Option<Left>
-    ensures { left_of result ≡ passed_line h n (cells_of left.entry.beside) (cells_of left.entry.line) }
+    ensures { left_of result ≡ passed_line h n (cells_of left.entry.beside.now) (cells_of left.entry.line.now) }
 {
     let line = runs::behind_run(h, n, left.line)?;
     Some(Left {
-        beside: line.or_fewer(left.beside),
+        beside: fewer(line, left.beside),
         line,
     })
 }
@@ -54,7 +54,7 @@ fn pass_line(h: Header, n: Note, left: Left) -> Option<Left>
 // Does the note stand rightly beside the cells?
 fn pass(h: Header, by: Divisor, n: Note, left: Left) -> Option<Left>
     requires { (by.delta ≡ h.delta) × (n.start ≤ max_beats * h.delta) }
-    ensures { left_of result ≡ passed h n (cells_of left.entry.beside) (cells_of left.entry.line) }
+    ensures { left_of result ≡ passed h n (cells_of left.entry.beside.now) (cells_of left.entry.line.now) }
 {
     let beat = by.beat_of(n.start);
     if rules::is_inside(h.delta, beat, n) {
@@ -72,17 +72,19 @@ fn in_order(delta: u32, beats: u32, last: Note, n: Note) -> bool
 }
 
 // What is asked of the notes beside cells that passed: ranges, order, and that they stand rightly beside them.
-pub fn notes_ok(h: Header, beats: u32, notes: Notes, cells: Cells) -> bool
-    requires { (0 < h.delta) × (h.delta ≤ max_delta) × (beats ≤ max_beats) × (every (cell_ok h.delta beats) (cells_of cells) && cells_sound h.delta (cells_of cells) ≡ true) }
-    ensures { result ≡ notes_asked h beats (notes_of notes.entry) (cells_of cells.entry) }
+pub fn notes_ok(h: Header, beats: u32, notes: &[NoteWords], cells: &[CellWords]) -> bool
+    requires { (0 < h.delta) × (h.delta ≤ max_delta) × (beats ≤ max_beats) × (every (cell_ok h.delta beats) (cells_of cells.now) && cells_sound h.delta (cells_of cells.now) ≡ true) }
+    ensures { result ≡ notes_asked h beats (notes_of notes.now) (cells_of cells.now) }
 {
     let by = Divisor::new(h.delta);
-    let mut last = notes::before_all();
+    // Every note may stand behind this one.
+    let mut last = Note::default();
     let mut left = Left {
         beside: cells,
         line: cells,
     };
-    for n in notes {
+    for words in notes {
+        let n = notes::note_at(words, 0);
         if !in_order(h.delta, beats, last, n) {
             return false;
         }
@@ -106,14 +108,10 @@ pub fn sound(h: Header, part: &[u32]) -> bool
     let beats = part[0];
     let behind_notes = 3 + 4 * (part[1] as usize);
     let end = layout::words_used(part[1], part[2]);
-    let cells = Cells {
-        words: &part[behind_notes..end],
-    };
+    let (cells, _) = part[behind_notes..end].as_chunks::<6>();
     if !neighbours::cells_ok(h.delta, beats, cells) {
         return false;
     }
-    let notes = Notes {
-        words: &part[3..behind_notes],
-    };
+    let (notes, _) = part[3..behind_notes].as_chunks::<4>();
     notes_ok(h, beats, notes, cells)
 }

@@ -11,8 +11,8 @@ returns-in_err-header c =
     let no = no_header _ _ _ (number_is _ _ _ _) _ c.in_err-header.ensures in
     record { number = ap answer_number (passed_on c.from_residual.ensures.1) ∙ no.0; words = no.1 }
 
-pub asked-requires : goal.asked-requires
-asked-requires c = header_ok_lem _ c.in_ok-header.ensures
+pub invariant_of-read : goal.invariant_of-read
+invariant_of-read c = record { ok = header_ok_lem _ c.in_ok-header.ensures }
 
 pub returns-in_err-asked : goal.returns-in_err-asked
 returns-in_err-asked c =

@@ -7,10 +7,10 @@ use Rattle.cuts.proofs.HalfWords.{counts_place}
 use Rattle.cuts.proofs.halves.contents_of.Goals as goal
 
 pub shelf_at-requires : goal.shelf_at-requires
-shelf_at-requires c = place_asks (in_range c.requires.0) c.requires.1
+shelf_at-requires c = place_asks (in_range c.args.s.ok) c.requires
 
 pub contents_at-requires : goal.contents_at-requires
-contents_at-requires c = counts_place (in_range c.requires.0) c.requires.1 c.shelf_at.ensures
+contents_at-requires c = counts_place (in_range c.args.s.ok) c.requires c.shelf_at.ensures
 
 pub returns : goal.returns
-returns c = c.contents_at.ensures ∙ ap (contents_at c.args.s.now) c.shelf_at.ensures
+returns c = c.contents_at.ensures ∙ ap (contents_at c.args.s.words.now) c.shelf_at.ensures

@@ -1,11 +1,6 @@
--- `session::list::check_list` meets its contract. The measure is how many words are left.
+-- `session::list::check_list` meets its contract.
 use Rattle.session.proofs.Checks.{Checked}
-use lib.ListN.{length}
-use Prim.Native.Nat.{◌-◌}
 use Rattle.session.proofs.list.check_list.Given as goal
 
-abbrev pub invariant-loop-at : goal.invariant-loop-at
-invariant-loop-at l = Checked l.h.delta l.beats l.list l.last l.cells l.at
-
-abbrev pub decreases-loop-at : goal.decreases-loop-at
-decreases-loop-at l = length l.list - l.at
+abbrev pub invariant-loop-words : goal.invariant-loop-words
+invariant-loop-words l = Checked l.h.delta l.beats l.notes l.last l.cells l.words-index

@@ -3,4 +3,4 @@ use Rattle.session.proofs.Passes.{given_by_last}
 use Rattle.session.proofs.runs.gives_none.Goals as goal
 
 pub returns : goal.returns
-returns c = given_by_last _ _ c.first_of_run.ensures c.last_of_run-last.ensures _ c.split_first.ensures c.is_none.ensures
+returns c = given_by_last _ _ c.first_of_run.ensures _ c.last_of_run.ensures c.is_empty.ensures

@@ -8,4 +8,4 @@ pub returns-in_err-line : goal.returns-in_err-line
 returns-in_err-line c = ap left_of c.from_residual.ensures ∙ line_not _ _ _ _ c.in_err-line.ensures
 
 pub returns : goal.returns
-returns c = line_yes _ _ _ _ c.in_ok-line.ensures c.or_fewer.ensures
+returns c = line_yes _ _ _ _ c.in_ok-line.ensures c.fewer.ensures
