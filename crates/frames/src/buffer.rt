@@ -1,7 +1,11 @@
 // Bytes that are collected in a fixed table. The table of words that a session is kept in is no such buffer: a struct that is generic in
 // its elements may hold no array of them.
 ghost use Rattle.std.specs.Prelude.{◌≡◌, ◌+◌, ◌≤◌, ◌<◌, ◌↔◌, List, ℕ, [], ◌∷◌, ◌++◌, IsTrue, length, take};
+ghost use Rattle.frames.specs.Lines.{frame_in};
+ghost use Rattle.frames.specs.Answering.{max_answer, Collects};
 
+use crate::answers;
+use crate::sessions::Session;
 use std::marker::Model;
 
 // At most N bytes, seen as their list.
@@ -66,5 +70,13 @@ impl<const N: usize> Buffer<N> {
         ensures { self.new ≡ [] }
     {
         self.count = 0;
+    }
+
+    // Collects the answer to a line, which is carried out on the session.
+    pub fn push_answer(&mut self, line: &[u8], session: &mut Session)
+        requires { length self.old + max_answer ≤ N }
+        ensures { Collects session.old self.old (frame_in line.now) session.new self.new }
+    {
+        self.count = answers::answer(line, session, &mut self.bytes, self.count);
     }
 }

@@ -1,6 +1,6 @@
--- `frames::input::Progress::flush` meets its contract.
+-- `frames::program::Progress::flush` meets its contract.
 use Rattle.std.proofs.Common.{ap, ◌∙◌, length, refl, arith}
-use Rattle.frames.proofs.input.Progress.flush.Goals as goal
+use Rattle.frames.proofs.program.Progress+OUT_BYTES.flush.Goals as goal
 
 pub returns : goal.returns
 returns c =
