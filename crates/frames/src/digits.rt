@@ -41,14 +41,18 @@ pub fn decode(line: &[u8], bytes: &mut [u8]) -> Option<usize>
     ensures bytes { option_map (λ n. take n bytes.new) result ≡ decoded line.now }
     ensures few { IfSome result (λ n. n ≤ 2000) }
 {
-    let (pairs, odd) = line.as_chunks::<2>();
-    if line.len() > MAX_DIGITS || !odd.is_empty() {
+    if line.len() > MAX_DIGITS {
         return None;
     }
+    let (pairs, odd) = line.as_chunks::<2>();
     for (i, [high, low]) in pairs.iter().enumerate() {
         bytes[i] = digit_value(*high)? * 16 + digit_value(*low)?;
     }
-    Some(pairs.len())
+    if odd.is_empty() {
+        Some(pairs.len())
+    } else {
+        None
+    }
 }
 
 // Writes the two digits of a byte from place `at` on.

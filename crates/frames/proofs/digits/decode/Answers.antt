@@ -3,14 +3,9 @@ use Rattle.std.proofs.Common.{◌≡◌, sym, length, arith}
 use Rattle.std.proofs.lemmas.Bool.{eqb-true, eqb-false}
 use Rattle.frames.proofs.Decoding.{decodes_start, decodes_pair, bad_high, bad_low, decodes_done, too_long, odd}
 use Rattle.frames.proofs.digits.decode.Goals as goal
-use Rattle.frames.proofs.digits.decode.Goals.{then-line-gt-MAX_DIGITS-via-then-line-gt-MAX_DIGITS, then-line-gt-MAX_DIGITS-via-else-line-gt-MAX_DIGITS+then-not-is_empty}
 
 pub returns-then-line-gt-MAX_DIGITS-clause-bytes : goal.returns-then-line-gt-MAX_DIGITS-clause-bytes
-returns-then-line-gt-MAX_DIGITS-clause-bytes c =
-    elim c.then-line-gt-MAX_DIGITS.branch [
-      | then-line-gt-MAX_DIGITS-via-then-line-gt-MAX_DIGITS w ↦ too_long _ (omega arith)
-      | then-line-gt-MAX_DIGITS-via-else-line-gt-MAX_DIGITS+then-not-is_empty w ↦ odd _ (omega arith) (λ e. eqb-false _ _ (sym w.if-not-is_empty.ensures) (omega arith))
-    ]
+returns-then-line-gt-MAX_DIGITS-clause-bytes c = too_long _ (omega arith)
 
 pub loop-i-init : goal.loop-i-init
 loop-i-init c = decodes_start _ _
@@ -27,8 +22,11 @@ pub loop-i-preserved : goal.loop-i-preserved
 loop-i-preserved c =
     decodes_pair c.loop-i.invariant c.as_chunks.ensures.front (omega arith) (omega arith) (omega arith) c.in_ok-digit_value.ensures.value c.in_ok-bytes.ensures.value
 
-pub returns-clause-bytes : goal.returns-clause-bytes
-returns-clause-bytes c =
+pub returns-then-is_empty-clause-bytes : goal.returns-then-is_empty-clause-bytes
+returns-then-is_empty-clause-bytes c =
     let e : c.loop-i.i ≡ length c.as_chunks.result.0.now = omega arith in
-    let none = eqb-true _ _ (sym c.if-not-is_empty.ensures) in
+    let none = eqb-true _ _ (sym c.if-is_empty.ensures) in
     rw (← e) (decodes_done c.loop-i.invariant (omega arith) (omega arith))
+
+pub returns-else-is_empty-clause-bytes : goal.returns-else-is_empty-clause-bytes
+returns-else-is_empty-clause-bytes c = odd _ (omega arith) (λ e. eqb-false _ _ (sym c.if-is_empty.ensures) (omega arith))
