@@ -18,12 +18,12 @@ const MAX_ANSWER: usize = 16387;
 #[derive(Drop)]
 pub struct Progress<const N: usize> {
     pub session: Session,
-    pub line: Buffer<MAX_KEPT>,
-    pub answers: Buffer<N>,
+    pub line: Buffer<u8, MAX_KEPT>,
+    pub answers: Buffer<u8, N>,
 }
 
 // Keeps a character of the line in hand, if no more than 4,000 are kept.
-fn keep(line: &mut Buffer<MAX_KEPT>, c: u8)
+fn keep(line: &mut Buffer<u8, MAX_KEPT>, c: u8)
     ensures { line.new ≡ kept line.old c }
 {
     if line.room() > 0 {

@@ -5,7 +5,7 @@ use Rattle.frames.proofs.program.Progress+OUT_BYTES.flush.Goals as goal
 pub returns : goal.returns
 returns c =
     record {
-      count = c.send-sent.ensures ∙ ap length c.as_slice.ensures.bytes;
-      few = omega (arith, c.send-sent.ensures, ap length c.as_slice.ensures.bytes, c.as_slice.ensures.few);
+      count = c.send-sent.ensures ∙ ap length c.as_slice.ensures.items;
+      few = omega (arith, c.send-sent.ensures, ap length c.as_slice.ensures.items, c.as_slice.ensures.few);
       emptied = rw c.clear.ensures refl;
     }

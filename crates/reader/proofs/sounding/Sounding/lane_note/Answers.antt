@@ -6,4 +6,6 @@ use Rattle.reader.proofs.sounding.Sounding.lane_note.Goals as goal
 pub returns : goal.returns
 returns c =
     let a = c.args in
-    rw (sound-at (λ s. s.start) refl a.self.now a.channel a.key c.requires.1, sound-at (λ s. s.velocity) refl a.self.now a.channel a.key c.requires.1) refl
+    let start = sound-at (λ s. s.start) refl a.self.now a.channel a.key c.requires.1 in
+    let velocity = sound-at (λ s. s.velocity) refl a.self.now a.channel a.key c.requires.1 in
+    rw (start, velocity) refl
