@@ -14,14 +14,15 @@ pub struct Quantity {
 pub fn quantity_at(s: &[u8], at: usize) -> Option<Quantity>
     ensures { quantity_of result ≡ quantity_at s.now at }
 {
+    let mut q = at;
     let mut sum: u32 = 0;
-    // A sum that is too large for a position stops short of it: no byte stands there.
-    for q in at..at.saturating_add(4) {
+    for _group in 0..4u32 {
         let b = *s.get(q)?;
+        q += 1;
         if b < 128 {
             return Some(Quantity {
                 number: sum * 128 + b as u32,
-                end: q + 1,
+                end: q,
             });
         }
         sum = sum * 128 + (b - 128) as u32;
