@@ -1,16 +1,17 @@
 -- The answer to a frame by its call byte. Assumes nothing.
-use Rattle.std.specs.Prelude.{◌≡◌, refl, Bool, true, false, cond, List, [], ◌∷◌, ◌++◌, ℕ, ◌+◌, ◌-◌, ◌≤◌, eqb, length, get_or, take, drop, Result, Ok, Some, None}
-use Rattle.std.proofs.Common.{sym, ap, ◌∙◌, append_assoc, arith, ne_eqb, length-append}
+use Rattle.std.specs.Prelude.{◌≡◌, refl, Bool, true, false, cond, List, [], ◌∷◌, ◌++◌, ℕ, ◌+◌, ◌-◌, ◌*◌, ◌≤◌, eqb, length, get_or, set, take, drop, Result, Ok, Some, None}
+use Rattle.std.proofs.Common.{sym, ap, ◌∙◌, arith, ne_eqb, length-append}
 use Rattle.std.proofs.lemmas.Bool.{eq-eqb}
 use lib.Seq.{take_all}
+use Rattle.words.specs.Splice.{splice, splice-append, splice_snoc}
 use Rattle.midi.specs.Numbers.{word32}
 use Rattle.frames.specs.Digits.{byte_digits, digits_of}
 use Rattle.frames.specs.Lines.{Frame, malformed, write_frame, with_words, open_of, lay_of, split_of, join_of, write_of, load_of, change_of, call_of, frame_of, decoded, frame_read, frame_in}
 use Rattle.frames.specs.Answers.{number_of, session_after, file_after, answer_of}
 use Rattle.frames.specs.Calling.{number_in, Changed, Wrote}
-use Rattle.frames.specs.Answering.{Answers}
+use Rattle.frames.specs.Answering.{Put, Answers, Collects}
 use Rattle.frames.specs.declared.calls.Refusal.{Refusal}
-use Rattle.frames.proofs.Putting.{length-digits_of}
+use Rattle.frames.proofs.Putting.{length-digits_of, take-splice}
 use Rattle.frames.proofs.Carried.{nothing}
 
 -- ---- the frame of a call byte
@@ -78,28 +79,48 @@ write_leaves s bytes = go (eqb (length bytes) 4) where
   go false = refl
 
 -- an answer without a file
-pub answer_number : (s : List ℕ) (f : Frame) {n : ℕ} (out : List ℕ) {out' : List ℕ} → n ≡ number_of s f → file_after s f ≡ []
-    → out' ≡ out ++ (byte_digits n ++ 10 ∷ []) → out' ≡ out ++ answer_of s f
+pub no_file : (s : List ℕ) (f : Frame) {n : ℕ} → n ≡ number_of s f → file_after s f ≡ [] → byte_digits n ++ 10 ∷ [] ≡ answer_of s f
 unfolding answer_of
-answer_number s f out is none e = e ∙ rw (none, ← is)
+no_file s f is none = rw (none, ← is)
 
-pub answered : {s : List ℕ} {f : Frame} {s' : List ℕ} {r : Result (Unit {0}) Refusal} → Changed s f s' r → (out : List ℕ) {out' : List ℕ}
-    → out' ≡ out ++ (byte_digits (number_in r) ++ 10 ∷ []) → Answers s out f s' out'
-answered {s} {f} c out e = record { session = c.session; output = answer_number s f out c.number c.file e }
+pub put_line : (out : List ℕ) (at n : ℕ) {out₁ : List ℕ} → out₁ ≡ splice out at (byte_digits n) → Put out at (byte_digits n ++ 10 ∷ []) (set out₁ (at + 2) 10) (at + 3)
+put_line out at n e = record { output = rw e (sym (splice_snoc out at (byte_digits n) 10)); end = refl; few = omega arith }
+
+pub answered : {s : List ℕ} {f : Frame} {s' : List ℕ} {r : Result (Unit {0}) Refusal} → Changed s f s' r → (out : List ℕ) (at : ℕ) {out' : List ℕ} {to : ℕ}
+    → Put out at (byte_digits (number_in r) ++ 10 ∷ []) out' to → Answers s out at f s' out' to
+answered {s} {f} c out at p = record { session = c.session; put = rw (no_file s f c.number c.file) at p }
 
 -- the answer to a malformed line
-pub answer_none : (s : List ℕ) {f : Frame} → f ≡ malformed → (out : List ℕ) {out' : List ℕ} → out' ≡ out ++ (byte_digits 255 ++ 10 ∷ []) → Answers s out f s out'
-answer_none s e out w = answered (nothing s e) out w
+pub answer_none : (s : List ℕ) {f : Frame} → f ≡ malformed → (out : List ℕ) (at : ℕ) {out' : List ℕ} {to : ℕ} → Put out at (byte_digits 255 ++ 10 ∷ []) out' to
+    → Answers s out at f s out' to
+answer_none s e out at p = answered (nothing s e) out at p
 
-module _ {s : List ℕ} {f : Frame} {file : List ℕ} {n : ℕ} (w : Wrote s f file (Ok n)) (out : List ℕ) {out₁ out₂ : List ℕ} (a : out₁ ≡ out ++ byte_digits 0) (b : out₂ ≡ out₁ ++ digits_of (take n file)) where
-  pub file_room : length out₂ ≤ length out + 16386
-  file_room =
-      let long = length-digits_of (take n file) in
-      omega (arith, ap length a, ap length b, length-append out (byte_digits 0), length-append out₁ (digits_of (take n file)), w.file.size, w.file.few, ap length w.file.file)
+module _ {s : List ℕ} {f : Frame} {file : List ℕ} {n : ℕ} (w : Wrote s f file (Ok n)) (out : List ℕ) (at : ℕ) {out₁ : List ℕ} (a : out₁ ≡ splice out at (byte_digits 0))
+    {out₂ : List ℕ} {to : ℕ} (e : to ≡ at + 2 + 2 * length (take n file)) (b : out₂ ≡ splice out₁ (at + 2) (digits_of (take n file))) where
+  pub file_room : to ≤ at + 16386
+  file_room = omega (arith, e, w.file.size, w.file.few, ap length w.file.file)
 
-  pub answer_file : {out₃ : List ℕ} → out₃ ≡ out₂ ++ 10 ∷ [] → out₃ ≡ out ++ answer_of s f
+  pub answer_file : Put out at (answer_of s f) (set out₂ to 10) (to + 1)
   unfolding answer_of
-  answer_file e =
-      rw (e, b, a, w.file.file, ← w.number)
-      (append_assoc (out ++ byte_digits 0) (digits_of (file_after s f)) (10 ∷ []) ∙ append_assoc out (byte_digits 0) (digits_of (file_after s f) ++ 10 ∷ [])
-      ∙ ap (λ (x : List ℕ). out ++ x) (sym (append_assoc (byte_digits 0) (digits_of (file_after s f)) (10 ∷ []))))
+  answer_file =
+      let long = length-digits_of (file_after s f) in
+      let both = length-append (byte_digits 0) (digits_of (file_after s f)) in
+      let all = length-append (byte_digits 0 ++ digits_of (file_after s f)) (10 ∷ []) in
+      let place : to ≡ at + length (byte_digits 0 ++ digits_of (file_after s f)) = omega (arith, e, ap length w.file.file) in
+      let last : out₂ ≡ splice out₁ (at + 2) (digits_of (file_after s f)) = rw w.file.file at b in
+      let first : splice out at (byte_digits 0 ++ digits_of (file_after s f)) ≡ out₂ = splice-append out at (byte_digits 0) (digits_of (file_after s f)) ∙ rw (← a) (sym last) in
+      rw (← w.number)
+      (record {
+        output = rw (place, ← first) (sym (splice_snoc out at (byte_digits 0 ++ digits_of (file_after s f)) 10));
+        end = omega arith;
+        few = omega (arith, file_room);
+      })
+
+-- an answer behind those that are collected
+pub collected : {s bytes : List ℕ} {count : ℕ} {f : Frame} {s' bytes' : List ℕ} {to : ℕ} → count + 16387 ≤ length bytes → Answers s bytes count f s' bytes' to
+    → Collects s (take count bytes) f s' (take to bytes')
+collected {s} {bytes} {count} {f} room a =
+    record {
+      session = a.session;
+      output = rw (a.put.output, a.put.end) (take-splice bytes count (answer_of s f) (omega (arith, a.put.end, a.put.few)));
+    }

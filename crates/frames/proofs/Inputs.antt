@@ -5,7 +5,7 @@ use Rattle.std.proofs.lemmas.List.{drop-append-le}
 use lib.Seq.{take_all, take-suc, drop-drop}
 use Rattle.frames.specs.Lines.{frame_in}
 use Rattle.frames.specs.Answers.{answer_of, line_answer, line_after}
-use Rattle.frames.specs.Answering.{Answers}
+use Rattle.frames.specs.Answering.{Collects}
 use Rattle.frames.specs.Input.{Reading, kept, taken, written, taken_all, written_all, written_last}
 use Rattle.frames.specs.Blocks.{reading_of, Takes}
 use Rattle.frames.specs.Loop.{Flushed, ReadWhole, ReadSome, Last}
@@ -13,8 +13,8 @@ use Rattle.frames.specs.declared.input.Progress.{Progress}
 
 -- ---- one byte
 
-module _ {p : Progress} where
-  pub takes-end : {s out : List ℕ} → Answers p.session p.answers (frame_in p.line) s out → Takes p (10 ∷ []) (record { session = s; line = []; answers = out })
+module _ {N : ℕ} {p : Progress N} where
+  pub takes-end : {s out : List ℕ} → Collects p.session p.answers (frame_in p.line) s out → Takes p (10 ∷ []) (record { session = s; line = []; answers = out })
   unfolding taken_all written_all taken written line_answer line_after
   takes-end a =
       record {
@@ -55,14 +55,14 @@ unfolding written_all taken_all
 written-append r [] cs = refl
 written-append r (b ∷ bs) cs = rw (written-append (taken r b) bs cs) (sym (append_assoc (written r b) (written_all (taken r b) bs) (written_all (taken_all (taken r b) bs) cs)))
 
-pub whole_none : (p : Progress) → ReadWhole p [] 0 p
+pub whole_none : {N : ℕ} (p : Progress N) → ReadWhole p [] 0 p
 unfolding taken_all written_all
 whole_none p = record { state = refl; count = omega arith; output = sym (append-nil p.answers) }
 
 -- all that is collected is written
-pub whole_flushed : {p : Progress} {n : ℕ} {q : Progress} → Flushed p n q → ReadWhole p [] n q
+pub whole_flushed : {N : ℕ} {p : Progress N} {n : ℕ} {q : Progress N} → Flushed p n q → ReadWhole p [] n q
 unfolding taken_all written_all
-whole_flushed {p} {n} f =
+whole_flushed {N} {p} {n} f =
     rw f.emptied
     (record {
       state = refl;
@@ -70,17 +70,17 @@ whole_flushed {p} {n} f =
       output = sym (ap (drop n) (append-nil p.answers) ∙ drop_of_length-le p.answers {i = n} (omega (arith, f.count)));
     })
 
-pub whole_taken : {p : Progress} {bs : List ℕ} {q : Progress} → Takes p bs q → ReadWhole p bs 0 q
-whole_taken {p} {bs} t =
+pub whole_taken : {N : ℕ} {p : Progress N} {bs : List ℕ} {q : Progress N} → Takes p bs q → ReadWhole p bs 0 q
+whole_taken {N} {p} {bs} t =
     record {
       state = t.state;
       count = omega (arith, ap length t.output, length-append p.answers (written_all (reading_of p) bs));
       output = t.output;
     }
 
-pub whole_append : {p : Progress} {bs : List ℕ} {m : ℕ} {q : Progress} {cs : List ℕ} {n : ℕ} {t : Progress}
+pub whole_append : {N : ℕ} {p : Progress N} {bs : List ℕ} {m : ℕ} {q : Progress N} {cs : List ℕ} {n : ℕ} {t : Progress N}
     → ReadWhole p bs m q → ReadWhole q cs n t → ReadWhole p (bs ++ cs) (m + n) t
-whole_append {p} {bs} {m} {q} {cs} {n} {t} a b =
+whole_append {N} {p} {bs} {m} {q} {cs} {n} {t} a b =
     let r = reading_of p in
     let us = written_all r bs in
     let ws = written_all (taken_all r bs) cs in
@@ -102,15 +102,15 @@ whole_append {p} {bs} {m} {q} {cs} {n} {t} a b =
 -- ---- a block
 
 -- the first i bytes of the block are read
-pub record Goes (p : Progress) (block : List ℕ) (i sent : ℕ) (q : Progress) : Type 0 where
+pub record Goes {N : ℕ} (p : Progress N) (block : List ℕ) (i sent : ℕ) (q : Progress N) : Type 0 where
   pub whole : ReadWhole p (take i block) sent q
   pub few : sent ≤ i * 65536
 
-pub goes_start : (p : Progress) (block : List ℕ) → Goes p block 0 0 p
+pub goes_start : {N : ℕ} (p : Progress N) (block : List ℕ) → Goes p block 0 0 p
 goes_start p block = record { whole = whole_none p; few = omega arith }
 
-module _ {p : Progress} {block : List ℕ} {i sent : ℕ} {q : Progress} (g : Goes p block i sent q) where
-  pub goes_on : i < length block → {n : ℕ} {t u : Progress} → ReadWhole q [] n t → n ≤ 65536 → Takes t (get_or block i 0 ∷ []) u
+module _ {N : ℕ} {p : Progress N} {block : List ℕ} {i sent : ℕ} {q : Progress N} (g : Goes p block i sent q) where
+  pub goes_on : i < length block → {n : ℕ} {t u : Progress N} → ReadWhole q [] n t → n ≤ 65536 → Takes t (get_or block i 0 ∷ []) u
       → Goes p block (i + 1) (sent + n) u
   goes_on more {n} {t} {u} room small taken =
       let next : take i block ++ [] ++ get_or block i 0 ∷ [] ≡ take (i + 1) block = rw (add-one i, take-suc block i 0 more, append-nil (take i block)) in
@@ -123,14 +123,14 @@ module _ {p : Progress} {block : List ℕ} {i sent : ℕ} {q : Progress} (g : Go
 
 -- ---- standard input
 
-pub some-none : (p : Progress) → ReadSome p p
+pub some-none : {N : ℕ} (p : Progress N) → ReadSome p p
 some-none p = record { input = []; sent = 0; whole = whole_none p }
 
-pub some_more : {p q : Progress} {bytes : List ℕ} {n : ℕ} {t : Progress} → ReadSome p q → ReadWhole q bytes n t → ReadSome p t
+pub some_more : {N : ℕ} {p q : Progress N} {bytes : List ℕ} {n : ℕ} {t : Progress N} → ReadSome p q → ReadWhole q bytes n t → ReadSome p t
 some_more {bytes = bytes} {n} a b = record { input = a.input ++ bytes; sent = a.sent + n; whole = whole_append a.whole b }
 
-pub last_whole : {p : Progress} {n : ℕ} {q : Progress} → Flushed p n q → {t : Progress} → t.answers ≡ q.answers ++ written_last (reading_of q)
+pub last_whole : {N : ℕ} {p : Progress N} {n : ℕ} {q : Progress N} → Flushed p n q → {t : Progress N} → t.answers ≡ q.answers ++ written_last (reading_of q)
     → Last p t (n + length t.answers)
-last_whole {p} {n} f {t} e =
+last_whole {N} {p} {n} f {t} e =
     let made : t.answers ≡ written_last (reading_of p) = rw f.emptied at e in
     record { count = omega (arith, f.count, ap length made); output = made }

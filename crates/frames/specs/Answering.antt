@@ -1,5 +1,6 @@
 -- What the functions that answer a line leave, for its frame f. Assumes nothing.
-use Rattle.std.specs.Prelude.{◌≡◌, List, ◌++◌, ℕ}
+use Rattle.std.specs.Prelude.{◌≡◌, List, ◌++◌, ℕ, ◌+◌, ◌≤◌, length}
+use Rattle.words.specs.Splice.{splice}
 use Rattle.frames.specs.Lines.{Frame}
 use Rattle.frames.specs.Answers.{session_after, answer_of}
 
@@ -11,7 +12,18 @@ out_bytes = 65536
 abbrev pub max_answer : ℕ
 max_answer = 16387
 
+-- The bytes ws stand in the output from place at on; to is the place behind them.
+pub record Put (out : List ℕ) (at : ℕ) (ws : List ℕ) (out' : List ℕ) (to : ℕ) : Type 0 where
+  pub output : out' ≡ splice out at ws
+  pub end : to ≡ at + length ws
+  pub few : to ≤ at + max_answer
+
+-- The session gives way to the one after the frame; the answer stands in the output from place at on.
+pub record Answers (s out : List ℕ) (at : ℕ) (f : Frame) (s' out' : List ℕ) (to : ℕ) : Type 0 where
+  pub session : s' ≡ session_after s f
+  pub put : Put out at (answer_of s f) out' to
+
 -- The session gives way to the one after the frame; the answer stands behind those that were collected.
-pub record Answers (s out : List ℕ) (f : Frame) (s' out' : List ℕ) : Type 0 where
+pub record Collects (s out : List ℕ) (f : Frame) (s' out' : List ℕ) : Type 0 where
   pub session : s' ≡ session_after s f
   pub output : out' ≡ out ++ answer_of s f

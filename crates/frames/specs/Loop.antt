@@ -11,35 +11,35 @@ abbrev pub block_bytes : ℕ
 block_bytes = 65536
 
 -- The collected answers, n bytes, were written, and are no longer collected.
-pub record Flushed (p : Progress) (n : ℕ) (q : Progress) : Type 0 where
+pub record Flushed {N : ℕ} (p : Progress N) (n : ℕ) (q : Progress N) : Type 0 where
   pub count : n ≡ length p.answers
   pub few : n ≤ 65536
   pub emptied : q ≡ record p { answers = [] }
 
 -- All these bytes were taken. The answers that were collected before and those to the bytes follow each other; as many as `sent` says,
 -- from the first on, were written, and the others are collected.
-pub record ReadWhole (p : Progress) (bytes : List ℕ) (sent : ℕ) (q : Progress) : Type 0 where
+pub record ReadWhole {N : ℕ} (p : Progress N) (bytes : List ℕ) (sent : ℕ) (q : Progress N) : Type 0 where
   pub state : reading_of q ≡ taken_all (reading_of p) bytes
   pub count : sent + length q.answers ≡ length p.answers + length (written_all (reading_of p) bytes)
   pub output : q.answers ≡ drop sent (p.answers ++ written_all (reading_of p) bytes)
 
 -- The same of some bytes, the input: what the system's read gives is named by no contract.
-pub record ReadSome (p q : Progress) : Type 0 where
+pub record ReadSome {N : ℕ} (p q : Progress N) : Type 0 where
   pub input : List ℕ
   pub sent : ℕ
   pub whole : ReadWhole p input sent q
 
 -- The answer to a last line without a line feed is what is collected; n bytes were written, what was collected before and it.
-pub record Last (p q : Progress) (n : ℕ) : Type 0 where
+pub record Last {N : ℕ} (p q : Progress N) (n : ℕ) : Type 0 where
   pub count : n ≡ length p.answers + length (written_last (reading_of p))
   pub output : q.answers ≡ written_last (reading_of p)
 
 -- What is collected behind an input, and the answer to its last line, are all that is to be written for it behind what was sent.
-pub rest-written : {input : List ℕ} {sent : ℕ} {q : Progress}
+pub rest-written : {N : ℕ} {input : List ℕ} {sent : ℕ} {q : Progress N}
     → ReadWhole (record { session = []; line = []; answers = [] }) input sent q
     → q.answers ++ written_last (reading_of q) ≡ drop sent (output_of input)
 unfolding output_of start
-rest-written {input = input} {sent} {q} h =
+rest-written {N} {input = input} {sent} {q} h =
     let ws = written_all start input in
     let last = written_last (taken_all start input) in
     ap₂ ◌++◌ h.output (ap written_last h.state) ∙ sym (drop-append-le sent ws last (omega (arith, h.count)))

@@ -4,18 +4,12 @@ ghost use Rattle.frames.specs.Digits.{byte_digits};
 ghost use Rattle.frames.specs.Lines.{write_of, call_of, frame_of, frame_in};
 ghost use Rattle.frames.specs.Answers.{answer_of};
 ghost use Rattle.frames.specs.Calling.{number_in};
-ghost use Rattle.frames.specs.Answering.{out_bytes, max_answer, Answers};
+ghost use Rattle.frames.specs.Answering.{max_answer, Put, Answers, Collects};
 
 use crate::buffer::Buffer;
 use crate::calls::{OUTPUT_BYTES, Refusal};
 use crate::sessions::Session;
 use crate::{calls, digits};
-
-// The bytes of answers that are collected before they are written.
-pub const OUT_BYTES: usize = 65536;
-
-// The answers that are collected.
-pub type Output = Buffer<OUT_BYTES>;
 
 // The number of an outcome.
 fn number(outcome: Result<(), Refusal>) -> u8
@@ -27,64 +21,76 @@ fn number(outcome: Result<(), Refusal>) -> u8
     }
 }
 
-// Writes an answer without a file: its number and a line feed.
-fn put_number(out: &mut Output, outcome: Result<(), Refusal>)
-    requires { length out.old + 3 ≤ out_bytes }
-    ensures { out.new ≡ out.old ++ (byte_digits (number_in outcome) ++ 10 ∷ []) }
+// Writes an answer without a file from place `at` on: its number and a line feed. Returns the place behind it.
+fn put_number(out: &mut [u8], at: usize, outcome: Result<(), Refusal>) -> usize
+    requires { at + 3 ≤ length out.old }
+    ensures { Put out.old at (byte_digits (number_in outcome) ++ 10 ∷ []) out.new result }
 {
-    digits::put_byte(out, number(outcome));
-    out.push(b'\n');
+    digits::put_byte(out, at, number(outcome));
+    out[at + 2] = b'\n';
+    at + 3
 }
 
 // Writes the answer to a write frame: the number, the written file and a line feed.
-fn answer_write(session: &[u32], bytes: &[u8], out: &mut Output)
-    requires { length out.old + max_answer ≤ out_bytes }
-    ensures { out.new ≡ out.old ++ answer_of session.now (write_of bytes.now) }
+fn answer_write(session: &[u32], bytes: &[u8], out: &mut [u8], at: usize) -> usize
+    requires { at + max_answer ≤ length out.old }
+    ensures { Put out.old at (answer_of session.now (write_of bytes.now)) out.new result }
 {
     let mut file = [0; OUTPUT_BYTES];
     match calls::write(session, bytes, &mut file) {
         Ok(size) => {
-            digits::put_byte(out, 0);
-            digits::put_digits(out, &file[..size]);
-            out.push(b'\n');
+            digits::put_byte(out, at, 0);
+            let end = digits::put_digits(out, at + 2, &file[..size]);
+            out[end] = b'\n';
+            end + 1
         }
-        Err(refusal) => put_number(out, Err(refusal)),
+        Err(refusal) => put_number(out, at, Err(refusal)),
     }
 }
 
 // Carries a call out on the session, and writes its answer.
-fn answer_call(call: u8, bytes: &[u8], session: &mut Session, out: &mut Output)
-    requires room { length out.old + max_answer ≤ out_bytes }
+fn answer_call(call: u8, bytes: &[u8], session: &mut Session, out: &mut [u8], at: usize) -> usize
+    requires room { at + max_answer ≤ length out.old }
     requires few { length bytes.now ≤ 2000 }
-    ensures { Answers session.old out.old (call_of call bytes.now) session.new out.new }
+    ensures { Answers session.old out.old at (call_of call bytes.now) session.new out.new result }
 {
     match call {
-        1 => put_number(out, session.open(bytes)),
-        5 => answer_write(session.words(), bytes, out),
-        _ => put_number(out, session.change(call, bytes)),
+        1 => put_number(out, at, session.open(bytes)),
+        5 => answer_write(session.as_slice(), bytes, out, at),
+        _ => put_number(out, at, session.change(call, bytes)),
     }
 }
 
 // Answers a frame's bytes; none are malformed.
-fn answer_frame(frame: &[u8], session: &mut Session, out: &mut Output)
-    requires room { length out.old + max_answer ≤ out_bytes }
+fn answer_frame(frame: &[u8], session: &mut Session, out: &mut [u8], at: usize) -> usize
+    requires room { at + max_answer ≤ length out.old }
     requires few { length frame.now ≤ 2000 }
-    ensures { Answers session.old out.old (frame_of frame.now) session.new out.new }
+    ensures { Answers session.old out.old at (frame_of frame.now) session.new out.new result }
 {
     match frame {
-        [call, bytes @ ..] => answer_call(*call, bytes, session, out),
-        [] => put_number(out, Err(Refusal::Malformed)),
+        [call, bytes @ ..] => answer_call(*call, bytes, session, out, at),
+        [] => put_number(out, at, Err(Refusal::Malformed)),
     }
 }
 
-// Answers a line: carries its call out on the session, and writes the answer.
-pub fn answer(line: &[u8], session: &mut Session, out: &mut Output)
-    requires { length out.old + max_answer ≤ out_bytes }
-    ensures { Answers session.old out.old (frame_in line.now) session.new out.new }
+// Answers a line: carries its call out on the session, and writes the answer from place `at` on. Returns the place behind it.
+pub fn answer(line: &[u8], session: &mut Session, out: &mut [u8], at: usize) -> usize
+    requires { at + max_answer ≤ length out.old }
+    ensures { Answers session.old out.old at (frame_in line.now) session.new out.new result }
 {
-    let mut bytes = Buffer::new();
+    let mut bytes = [0; digits::MAX_BYTES];
     match digits::decode(line, &mut bytes) {
-        Some(frame) => answer_frame(frame, session, out),
-        None => put_number(out, Err(Refusal::Malformed)),
+        Some(count) => answer_frame(&bytes[..count], session, out, at),
+        None => put_number(out, at, Err(Refusal::Malformed)),
+    }
+}
+
+impl<const N: usize> Buffer<u8, N> {
+    // Collects the answer to a line, which is carried out on the session.
+    pub fn push_answer(&mut self, line: &[u8], session: &mut Session)
+        requires { length self.old + max_answer ≤ N }
+        ensures { Collects session.old self.old (frame_in line.now) session.new self.new }
+    {
+        self.count = answer(line, session, &mut self.items, self.count);
     }
 }

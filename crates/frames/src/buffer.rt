@@ -1,41 +1,40 @@
-// Bytes that are collected in a fixed table. The table of words that a session is kept in is no such buffer: a struct that is generic in
-// its elements may hold no array of them.
-ghost use Rattle.std.specs.Prelude.{◌≡◌, ◌+◌, ◌≤◌, ◌<◌, ◌↔◌, List, ℕ, [], ◌∷◌, ◌++◌, IsTrue, length, take};
+// Items that are collected in a fixed table: the bytes of lines and answers, and the words of a session.
+ghost use Rattle.std.specs.Prelude.{◌≡◌, ◌+◌, ◌≤◌, ◌<◌, ◌↔◌, List, [], ◌∷◌, ◌++◌, IsTrue, length, take};
 
 use std::marker::Model;
 
-// At most N bytes, seen as their list.
+// At most N items, seen as their list. The crate's functions on bytes and words write into the table itself, which is why it is theirs too.
 #[derive(Drop)]
-pub struct Buffer<const N: usize> {
-    bytes: [u8; N],
-    count: usize,
+pub struct Buffer<T: Copy + Default, const N: usize> {
+    pub(crate) items: [T; N],
+    pub(crate) count: usize,
 }
 
-impl<const N: usize> Model for Buffer<N> {
-    ghost Value = { List ℕ };
+impl<T: Copy + Default, const N: usize> Model for Buffer<T, N> {
+    ghost Value = { List T };
 
-    ghost view = { λ b. take b.count b.bytes };
+    ghost view = { λ b. take b.count b.items };
 
     ghost invariant = { λ b. b.count ≤ N };
 }
 
-impl<const N: usize> Buffer<N> {
+impl<T: Copy + Default, const N: usize> Buffer<T, N> {
     // None yet.
     pub fn new() -> Self
         ensures { result ≡ [] }
     {
         Buffer {
-            bytes: [0; N],
+            items: [T::default(); N],
             count: 0,
         }
     }
 
-    // The bytes that are collected.
-    pub fn as_slice(&self) -> &[u8]
-        ensures bytes { result.now ≡ self.now }
+    // The items that are collected.
+    pub fn as_slice(&self) -> &[T]
+        ensures items { result.now ≡ self.now }
         ensures few { length self.now ≤ N }
     {
-        &self.bytes[..self.count]
+        &self.items[..self.count]
     }
 
     // Are there none?
@@ -52,12 +51,12 @@ impl<const N: usize> Buffer<N> {
         N - self.count
     }
 
-    // Puts a byte behind the others.
-    pub fn push(&mut self, byte: u8)
+    // Puts an item behind the others.
+    pub fn push(&mut self, item: T)
         requires { length self.old < N }
-        ensures { self.new ≡ self.old ++ byte ∷ [] }
+        ensures { self.new ≡ self.old ++ item ∷ [] }
     {
-        self.bytes[self.count] = byte;
+        self.items[self.count] = item;
         self.count += 1;
     }
 

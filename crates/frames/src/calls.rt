@@ -1,6 +1,7 @@
 // The calls of frames: each takes the bytes behind the call byte.
 ghost use Rattle.std.specs.Prelude.{◌≡◌, ◌+◌, ◌*◌, ◌≤◌, length};
 ghost use Rattle.frames.specs.Lines.{arguments, change_of, lay_of, split_of, join_of, write_of, load_of};
+ghost use Rattle.frames.specs.Answers.{output_bytes};
 ghost use Rattle.frames.specs.Calling.{refusal_number, words_in, Changed, Wrote};
 ghost use Rattle.frames.specs.declared.calls.Refusal.TheVariants.{AnsweredNo};
 
@@ -126,11 +127,8 @@ pub(crate) fn change(session: &mut [u32], call: u8, bytes: &[u8]) -> Result<(), 
 }
 
 // Write: shelf. The file goes to the start of an output; returns how many bytes it has.
-pub fn write(
-    session: &[u32],
-    bytes: &[u8],
-    output: &mut [u8; OUTPUT_BYTES],
-) -> Result<usize, Refusal>
+pub fn write(session: &[u32], bytes: &[u8], output: &mut [u8]) -> Result<usize, Refusal>
+    requires { length output.old ≡ output_bytes }
     ensures { Wrote session.now (write_of bytes.now) output.new result }
 {
     let [shelf] = words_of::<1>(bytes)?;

@@ -1,10 +1,9 @@
 // Uppercase hexadecimal digits: a line of them read as bytes, and bytes written as digits.
-ghost use Rattle.std.specs.Prelude.{◌≡◌, ◌+◌, ◌*◌, ◌≤◌, ◌<◌, ◌++◌, IfSome, length};
+ghost use Rattle.std.specs.Prelude.{◌≡◌, ◌+◌, ◌*◌, ◌≤◌, ◌<◌, IfSome, length, take};
+ghost use Rattle.words.specs.Splice.{splice};
 ghost use Rattle.frames.specs.Digits.{digit_value, digit_of, byte_digits, digits_of};
 ghost use Rattle.frames.specs.Lines.{decoded};
-ghost use Rattle.std.specs.Option.{option_copied};
-
-use crate::buffer::Buffer;
+ghost use Rattle.std.specs.Option.{option_map};
 
 // No line of more digits is a frame.
 const MAX_DIGITS: usize = 4000;
@@ -35,42 +34,43 @@ fn digit_of(value: u8) -> u8
     }
 }
 
-// Reads a line's bytes; none of a line that is too long, or has an odd digit or another character.
-pub fn decode<'a>(line: &[u8], bytes: &'a mut Buffer<MAX_BYTES>) -> Option<&'a [u8]>
-    ensures bytes { option_copied result ≡ decoded line.now }
-    ensures few { IfSome result (λ bytes. length bytes.now ≤ 2000) }
+// Reads a line's bytes to the start of a list. Returns how many there are; none of a line that is too long, or has an odd digit or another
+// character.
+pub fn decode(line: &[u8], bytes: &mut [u8]) -> Option<usize>
+    requires { 2000 ≤ length bytes.old }
+    ensures bytes { option_map (λ n. take n bytes.new) result ≡ decoded line.now }
+    ensures few { IfSome result (λ n. n ≤ 2000) }
 {
     if line.len() > MAX_DIGITS {
         return None;
     }
-    bytes.clear();
-    let mut left = line;
-    while let [high, low, behind @ ..] = left {
-        bytes.push(digit_value(*high)? * 16 + digit_value(*low)?);
-        left = behind;
+    let (pairs, odd) = line.as_chunks::<2>();
+    for (i, [high, low]) in pairs.iter().enumerate() {
+        bytes[i] = digit_value(*high)? * 16 + digit_value(*low)?;
     }
-    if left.is_empty() {
-        Some(bytes.as_slice())
+    if odd.is_empty() {
+        Some(pairs.len())
     } else {
         None
     }
 }
 
-// Writes the two digits of a byte.
-pub fn put_byte<const N: usize>(out: &mut Buffer<N>, byte: u8)
-    requires { length out.old + 2 ≤ N }
-    ensures { out.new ≡ out.old ++ byte_digits byte }
+// Writes the two digits of a byte from place `at` on.
+pub fn put_byte(out: &mut [u8], at: usize, byte: u8)
+    requires { at + 2 ≤ length out.old }
+    ensures { out.new ≡ splice out.old at (byte_digits byte) }
 {
-    out.push(digit_of(byte / 16));
-    out.push(digit_of(byte % 16));
+    words::put(out, at, [digit_of(byte / 16), digit_of(byte % 16)]);
 }
 
-// Writes the digits of all bytes.
-pub fn put_digits<const N: usize>(out: &mut Buffer<N>, bytes: &[u8])
-    requires { length out.old + 2 * length bytes.now ≤ N }
-    ensures { out.new ≡ out.old ++ digits_of bytes.now }
+// Writes the digits of all bytes from place `at` on. Returns the place behind them.
+pub fn put_digits(out: &mut [u8], at: usize, bytes: &[u8]) -> usize
+    requires { at + 2 * length bytes.now ≤ length out.old }
+    ensures end { result ≡ at + 2 * length bytes.now }
+    ensures digits { out.new ≡ splice out.old at (digits_of bytes.now) }
 {
-    for byte in bytes {
-        put_byte(out, *byte);
+    for (i, byte) in bytes.iter().enumerate() {
+        put_byte(out, at + 2 * i, *byte);
     }
+    at + 2 * bytes.len()
 }

@@ -1,11 +1,9 @@
 // Input that is taken byte by byte: lines, their answers, and what is kept between them.
 ghost use Rattle.std.specs.Prelude.{◌≡◌, ◌+◌, ◌≤◌, ◌↔◌, [], ◌∷◌, IsTrue, length};
 ghost use Rattle.frames.specs.Input.{kept};
-ghost use Rattle.frames.specs.Answering.{out_bytes, max_answer};
+ghost use Rattle.frames.specs.Answering.{max_answer};
 ghost use Rattle.frames.specs.Blocks.{Takes};
 
-use crate::answers;
-use crate::answers::Output;
 use crate::buffer::Buffer;
 use crate::sessions::Session;
 
@@ -15,16 +13,17 @@ const MAX_KEPT: usize = 4001;
 // No answer is longer: two digits, those of the largest file, and a line feed.
 const MAX_ANSWER: usize = 16387;
 
-// What is kept of the input so far: the session, the characters of the line in hand, and the answers that are not yet written.
+// What is kept of the input so far: the session, the characters of the line in hand, and the answers that are not yet written, of which
+// there is room for N bytes.
 #[derive(Drop)]
-pub struct Progress {
+pub struct Progress<const N: usize> {
     pub session: Session,
-    pub line: Buffer<MAX_KEPT>,
-    pub answers: Output,
+    pub line: Buffer<u8, MAX_KEPT>,
+    pub answers: Buffer<u8, N>,
 }
 
 // Keeps a character of the line in hand, if no more than 4,000 are kept.
-fn keep(line: &mut Buffer<MAX_KEPT>, c: u8)
+fn keep(line: &mut Buffer<u8, MAX_KEPT>, c: u8)
     ensures { line.new ≡ kept line.old c }
 {
     if line.room() > 0 {
@@ -32,26 +31,27 @@ fn keep(line: &mut Buffer<MAX_KEPT>, c: u8)
     }
 }
 
-impl Progress {
+impl<const N: usize> Progress<N> {
     // Is there room for another answer?
     pub fn has_room(&self) -> bool
-        ensures { IsTrue result ↔ (length self.now.answers + max_answer ≤ out_bytes) }
+        ensures { IsTrue result ↔ (length self.now.answers + max_answer ≤ N) }
     {
         self.answers.room() >= MAX_ANSWER
     }
 
     // Answers the line in hand, which then is empty.
     pub fn end_line(&mut self)
-        requires { length self.old.answers + max_answer ≤ out_bytes }
+        requires { length self.old.answers + max_answer ≤ N }
         ensures { Takes self.old (10 ∷ []) self.new }
     {
-        answers::answer(self.line.as_slice(), &mut self.session, &mut self.answers);
+        self.answers
+            .push_answer(self.line.as_slice(), &mut self.session);
         self.line.clear();
     }
 
     // Takes the next byte of the input: a line feed ends the line in hand.
     pub fn next(&mut self, c: u8)
-        requires { length self.old.answers + max_answer ≤ out_bytes }
+        requires { length self.old.answers + max_answer ≤ N }
         ensures { Takes self.old (c ∷ []) self.new }
     {
         match c {

@@ -14,15 +14,19 @@ use std::io::{Read, Stdin, Stdout, Write};
 // The bytes of input that are read at once.
 const BLOCK_BYTES: usize = 65536;
 
-// Writes answers. Returns how many bytes they are, also where the system does not take them: what it takes is named by no contract.
+// The bytes of answers that are collected before they are written.
+const OUT_BYTES: usize = 65536;
+
+// Writes answers. Returns how many bytes they are.
 fn send(to: &mut Stdout, answers: &[u8]) -> usize
     ensures { result ≡ length answers.now }
 {
+    // What the system answers is dropped: no contract names what it took, and the program has nobody else to tell.
     let _ = to.write_all(answers);
     answers.len()
 }
 
-impl Progress {
+impl Progress<OUT_BYTES> {
     // Writes the answers that are collected, and forgets them. Returns how many bytes they are.
     fn flush(&mut self, to: &mut Stdout) -> usize
         ensures { Flushed self.old result self.new }

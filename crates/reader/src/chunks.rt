@@ -46,12 +46,13 @@ fn header_fits(delta: u32, s: &[u8]) -> bool
     bytes::word16(s, 12) == delta
 }
 
-// Question 11: the first MTrk from a position on, reached through complete chunks. Each step is as long as its chunk says, so no `for` goes here.
+// Question 11: the first MTrk from a position on, reached through complete chunks.
 fn track_from(s: &[u8], from: usize) -> Result<Found, Question>
     requires { from ≤ length s.now }
     ensures { place_of result ≡ chunk_place (track_after s.now from) }
 {
     let mut at = from;
+    // No `for`: each step is as long as its chunk says. The first answer of no leaves the loop with its question.
     let question = 'chunks: loop {
         if s.len() - at < 8 {
             break 'chunks Question::TrackReached;

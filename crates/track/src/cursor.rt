@@ -11,7 +11,8 @@ use crate::quantities;
 const END: u8 = 47;
 
 // Where reading stands: the position in the track, the tick of the last event, the running status in force (0: none). It is a byte, as in the
-// definition of a place: an Option would be no plainer, since no status is 0.
+// definition of a place: an Option would be no plainer, since no status is 0. That the position is inside the track and the tick within 4,096
+// beats is asked where it is needed, and is no fact of the type: a cursor does not have its track, and the tick behind an event is tested later.
 #[derive(Clone, Copy)]
 pub struct Cursor {
     pub at: usize,
@@ -19,7 +20,8 @@ pub struct Cursor {
     pub running: u8,
 }
 
-// The note of a channel's key starts, or with velocity 0 ends.
+// The note of a channel's key starts, or with velocity 0 ends. Channel and key are two numbers, and no struct that says how large they are: it
+// would be made in one function, of a byte that is known to be data, and taken apart again where a table is read.
 #[derive(Clone, Copy)]
 pub struct Play {
     pub channel: u32,
@@ -87,6 +89,9 @@ fn data_at(s: &[u8], q: usize) -> Option<u8>
     let b = *s.get(q)?;
     if b < 128 { Some(b) } else { None }
 }
+
+// From here to `behind_time` each function takes what its definition takes, track, tick and position, one by one: a struct of them would be
+// made anew at each call, since the position moves on.
 
 // The second data byte of a channel event, at q, and the event. Behind it its status is in force.
 fn second_data(s: &[u8], tick: u32, status: u8, key: u8, q: usize) -> Option<Event>

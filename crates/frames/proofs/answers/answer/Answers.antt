@@ -6,4 +6,4 @@ pub returns-in-Some : goal.returns-in-Some
 returns-in-Some c = rw (frame_decoded _ _ c.in-Some.ensures.bytes) c.answer_frame.ensures
 
 pub returns-in-None : goal.returns-in-None
-returns-in-None c = answer_none _ (frame_none _ c.in-None.ensures.bytes) _ c.put_number.ensures
+returns-in-None c = answer_none _ (frame_none _ c.in-None.ensures.bytes) _ _ c.put_number.ensures

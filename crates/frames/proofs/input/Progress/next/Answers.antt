@@ -4,4 +4,4 @@ use Rattle.frames.proofs.Inputs.{takes_kept}
 use Rattle.frames.proofs.input.Progress.next.Goals as goal
 
 pub returns-in_default : goal.returns-in_default
-returns-in_default c = takes_kept (λ e. omega arith) c.keep.ensures
+returns-in_default g c = takes_kept (λ e. omega arith) c.keep.ensures

@@ -1,7 +1,12 @@
 -- `reader::sounding::Sounding::put_lane` meets its contract.
-use mathlib.Core.Path.{sym}
-use Rattle.midi.proofs.Tables.{key-put}
+use Rattle.std.proofs.Common.{refl}
+use Rattle.reader.proofs.Sounds.{sound-put}
 use Rattle.reader.proofs.sounding.Sounding.put_lane.Goals as goal
 
 pub returns : goal.returns
-returns c = let a = c.args in record { starts = sym (key-put a.self.now.starts a.channel a.key c.requires.1 a.start); velocities = sym (key-put a.self.now.velocities a.channel a.key c.requires.1 a.velocity) }
+returns c =
+    let a = c.args in
+    record {
+      starts = sound-put (λ s. s.start) refl a.self.now a.channel a.key c.requires.1 (record { start = a.start; velocity = a.velocity });
+      velocities = sound-put (λ s. s.velocity) refl a.self.now a.channel a.key c.requires.1 (record { start = a.start; velocity = a.velocity });
+    }

@@ -1,7 +1,7 @@
--- `frames::input::Progress::read_block` meets its contract.
+-- `frames::program::Progress::read_block` meets its contract.
 use Rattle.std.proofs.Common.{arith}
 use Rattle.frames.proofs.Inputs.{goes_start, goes_on, goes_done}
-use Rattle.frames.proofs.input.Progress.read_block.Goals as goal
+use Rattle.frames.proofs.program.Progress+OUT_BYTES.read_block.Goals as goal
 
 pub loop-c-init : goal.loop-c-init
 loop-c-init c = goes_start _ _

@@ -2,7 +2,7 @@
 use Rattle.std.proofs.Common.{refl, arith}
 use Rattle.std.proofs.lemmas.Result.{err_from_is_err_and}
 use Rattle.frames.proofs.Carried.{question_some, open_wrong, open_large, open_same, open_kept, open_accepted}
-use Rattle.frames.proofs.sessions.Session.open.Goals as goal
+use Rattle.frames.proofs.sessions.Buffer+u32+MAX_SESSION.open.Goals as goal
 
 pub returns-in_err-delta : goal.returns-in_err-delta
 returns-in_err-delta c =
@@ -18,13 +18,13 @@ returns-in_err-take_open c =
     rw (
       p.1,
       p.2,
-      open_same c.args.self.now _ c.in_ok-delta.ensures (omega arith) c.self.inside.words (omega arith)
+      open_same c.args.self.now _ c.in_ok-delta.ensures (omega arith) c.self.inside.items (omega arith)
           (c.in_err-take_open.ensures.number, c.in_err-take_open.ensures.words) (question_some _),
       c.self.view_is,
     )
-    (open_kept _ _ c.in_ok-delta.ensures (omega arith) c.self.inside.words (omega arith) (c.in_err-take_open.ensures.number, c.in_err-take_open.ensures.words)
+    (open_kept _ _ c.in_ok-delta.ensures (omega arith) c.self.inside.items (omega arith) (c.in_err-take_open.ensures.number, c.in_err-take_open.ensures.words)
     (question_some _) refl)
 
 pub returns : goal.returns
 returns c =
-    open_accepted _ _ c.in_ok-delta.ensures (omega arith) c.self.inside.words (omega arith) (c.in_ok-take_open.ensures.number, c.in_ok-take_open.ensures.words) refl
+    open_accepted _ _ c.in_ok-delta.ensures (omega arith) c.self.inside.items (omega arith) (c.in_ok-take_open.ensures.number, c.in_ok-take_open.ensures.words) refl
