@@ -62,15 +62,12 @@ module _ {s : List ℕ} {h : Header} {shelf beats : ℕ} {ws : List ℕ} {count 
   unfolding cells_listed listed
   cells_are = a.cells
 
-  module _ {at : ℕ} (place : at ≡ shelf_at h shelf) {s₁ : List ℕ} (copied : s₁ ≡ splice s (at + 3) (take (length ws) (drop 0 ws))) where
-    notes_in_lem : s₁ ≡ splice s (at + 3) ws
-    notes_in_lem = copied ∙ ap (splice s (at + 3)) (take-length ws)
-
+  module _ {at : ℕ} (place : at ≡ shelf_at h shelf) {s₁ : List ℕ} (copied : s₁ ≡ splice s (at + 3) ws) where
     long : length s₁ ≡ length s
-    long = ap length notes_in_lem ∙ length-splice s (at + 3) ws
+    long = ap length copied ∙ length-splice s (at + 3) ws
 
     notes_are : read_notes k (drop (at + 3) s₁) ≡ ns
-    notes_are = rw notes_in_lem (notes-written k s (at + 3) ws sized.whole (omega (arith, sized, place)))
+    notes_are = rw copied (notes-written k s (at + 3) ws sized.whole (omega (arith, sized, place)))
 
     made_are : cells_at h.delta s₁ (at + 3) k ≡ cs
     unfolding cells_at
@@ -96,5 +93,5 @@ module _ {s : List ℕ} {h : Header} {shelf beats : ℕ} {ws : List ℕ} {count 
           let many : length ns ≡ k = length_read k ws in
           let parts : framed s₂ at h.words beats k count
           ≡ framed (splice (splice s (at + 3) (gather note_words ns)) (at + 3 + 4 * length ns) (gather cell_words cs)) at h.words beats (length ns) (length cs) =
-          rw (made.words, made_are, notes_in_lem, cells_are, many, notes_words k ws sized.whole) in
+          rw (made.words, made_are, copied, cells_are, many, notes_words k ws sized.whole) in
           e ∙ parts ∙ shelf-framed s at h.words beats ns cs ∙ ap (λ (x : ℕ). splice s x (shelf_words h.words beats ns cs)) place

@@ -37,7 +37,7 @@ fn put_list(s: &mut [u32], h: Header, shelf: u32, beats: u32, notes: &[u32], cel
 {
     let at = header::shelf_at(h, shelf);
     let count = notes.len() / 4;
-    words::copy_from(s, at + 3, notes, 0, notes.len());
+    words::copy_from(s, at + 3, notes);
     cells::put_cells(s, at + 3, count, h.delta);
     shelf::put_frame(s, at, h.words as usize, beats, count as u32, cells);
 }

@@ -1,4 +1,5 @@
--- The loop over the first buckets of an output, whose bytes are written over their events; and what is left for the buckets behind them. Assumes nothing.
+-- The loop over the first buckets of an output, whose bytes are written over their events; and what is left for the buckets behind them. Assumes
+-- nothing.
 use mathlib.Core.Path.{◌≡◌, refl, sym, ap, ap₂, ◌∙◌}
 use mathlib.Core.Logic.{⊎_elim}
 use mathlib.Core.List.{List, [], ◌∷◌, ◌++◌, append-nil}

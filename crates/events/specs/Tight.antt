@@ -18,8 +18,8 @@ pub record OneBucket (width : ℕ) (ks : List ℕ) : Type 0 where
 abbrev pub bytes_in : ℕ → ℕ → ℕ → ℕ → ℕ → List ℕ → List ℕ
 bytes_in width v from upto tick out = window_bytes tick (sort (events_in width v from upto out))
 
--- The bytes of bucket v are written over its events if they are no longer, and the last of these has the tick that is returned; if they are longer, all
--- is as it was.
+-- The bytes of bucket v are written over its events if they are no longer, and the last of these has the tick that is returned; if they are longer,
+-- all is as it was.
 pub record TightBucket (width v from upto tick : ℕ) (out after : List ℕ) (last : Option ℕ) : Type 0 where
   pub tight : (t : ℕ) → last ≡ Some t → (22 + 4 * from + length (bytes_in width v from upto tick out) ≤ 22 + 4 * upto) × (t ≡ last_tick tick (sort (events_in width v from upto out)))
       × (after ≡ splice out (22 + 4 * from) (bytes_in width v from upto tick out))

@@ -74,17 +74,15 @@ pub fn put_tight(
     ensures { TightPut width ends.now out.old out.new result.bucket result.at result.tick }
 {
     let all = ends[2047];
+    let mut bucket = 2047;
     let mut from: usize = 0;
     let mut tick: u32 = 0;
     for v in 0..2047 {
         let upto = ends[v];
-        let Some(last) = put_tight_bucket(out, width, v, from, upto as usize, a, b, places, tick)
-        else {
-            return Front {
-                bucket: v,
-                at: 22 + 4 * from,
-                tick: tick,
-            };
+        let put = put_tight_bucket(out, width, v, from, upto as usize, a, b, places, tick);
+        let Some(last) = put else {
+            bucket = v;
+            break;
         };
         from = upto as usize;
         tick = last;
@@ -94,8 +92,8 @@ pub fn put_tight(
         }
     }
     Front {
-        bucket: 2047,
+        bucket,
         at: 22 + 4 * from,
-        tick: tick,
+        tick,
     }
 }

@@ -1,5 +1,6 @@
 // A window of a track: some of its events, in order, one after the other. Counted, and written.
-// The two loops stand apart: one function over both would be lent an output that the count does not have, and say no more.
+// The two loops stand apart: one function over both would take a closure that counts or writes, and what the closure does to the output over several
+// events would have to be a relation of its states, which says less plainly what these two contracts say.
 ghost use Rattle.std.specs.Prelude.{◌≡◌, ◌+◌, ◌≤◌, length};
 ghost use Rattle.words.specs.Splice.{splice};
 ghost use Rattle.track.specs.Keys.{tick_of};

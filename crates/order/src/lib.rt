@@ -7,6 +7,7 @@ ghost use Rattle.order.specs.Events.{event, velocity_of, Ordered};
 ghost use Rattle.order.specs.Notes.{events_of};
 ghost use Rattle.order.specs.Runs.{Run, Split};
 
+pub mod lanes;
 pub mod notes;
 pub mod taking;
 pub mod windows;
@@ -53,7 +54,7 @@ fn run_end(notes: Notes, from: usize, lane: usize) -> usize
 }
 
 // Where the events of each lane that has notes begin and end, in the order of the lanes. Returns how many lanes these are. Each turn passes all notes
-// of a lane, so that the loop counts by itself.
+// of a lane: a `for` over the notes would have to tell in each whether it is the first or the last of its lane, and is no plainer.
 pub fn runs(notes: Notes, starts: &mut [u32], ends: &mut [u32]) -> usize
     requires { Ordered notes.words.now notes.count × (2048 ≤ length starts.old) × (2048 ≤ length ends.old) }
     ensures { Split notes.entry.words.now notes.entry.count starts.new ends.new result × (result ≤ 2048) }

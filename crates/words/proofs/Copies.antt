@@ -13,14 +13,6 @@ part_written s new items b n fits long is =
     let e : b + n - b ≡ n = omega arith in
     rw (← is) (splice-part s b (b + n) new (omega arith) fits (long ∙ rw e (length_part s b n fits)))
 
--- a part of another list
-pub part_copied : (s m new : List ℕ) (to from k : ℕ) → to + k ≤ length s → from + k ≤ length m
-    → new ≡ take (from + k - from) (drop from m) → put_mid to (to + k - to) s new ≡ splice s to (take k (drop from m))
-part_copied s m new to from k fits there is =
-    let e : from + k - from ≡ k = omega arith in
-    let f : to + k - to ≡ k = omega arith in
-    rw (is, e) (splice-part s to (to + k) _ (omega arith) fits (rw f (length_part m from k there)))
-
 -- one word everywhere
 pub part_filled : (s new : List ℕ) (from to w : ℕ) → from ≤ to → to ≤ length s
     → new ≡ replicate (length (take (to - from) (drop from s))) w → put_mid from (to - from) s new ≡ splice s from (replicate (to - from) w)

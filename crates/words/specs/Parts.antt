@@ -1,4 +1,4 @@
--- Parts of a list of words: its n words from place a on, `take n (drop a l)`. A write that is apart from a part leaves it as it was.
+-- Parts of a list: its n items from place a on, `take n (drop a l)`. A write that is apart from a part leaves it as it was.
 -- Assumes nothing.
 use Rattle.std.specs.Prelude.{◌≡◌, refl, List, ◌∷◌, ◌++◌, ℕ, suc, ◌+◌, ◌≤◌, ◌<◌, length, get_or, take, drop}
 use Rattle.std.proofs.Common.{arith, length-drop, drop-cons, length-take-le, take_at, drop_at}

@@ -1,4 +1,4 @@
--- `splice`: a list of words with a run of words written over it from a place on, and its laws.
+-- `splice`: a list with a run of items written over it from a place on, and its laws.
 -- In order: length; runs behind one another; reading one word; writes that are apart; one write over another; the result as parts.
 -- Words that would fall behind the list's end are dropped, so most laws ask for no range. Assumes nothing.
 use Rattle.std.specs.Prelude.{◌≡◌, refl, List, [], ◌∷◌, ◌++◌, ℕ, zero, suc, ◌+◌, ◌≤◌, ◌<◌, length, get_or, set, take, drop, ◌-◌}

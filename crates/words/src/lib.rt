@@ -1,7 +1,7 @@
 // Writing into a list: fill with zeros, put a few items, copy a run.
 #![tactic(auto)]
 
-ghost use Rattle.std.specs.Prelude.{◌≡◌, ◌+◌, ◌-◌, ◌≤◌, length, take, drop, replicate};
+ghost use Rattle.std.specs.Prelude.{◌≡◌, ◌+◌, ◌-◌, ◌≤◌, length, replicate};
 ghost use Rattle.words.specs.Splice.{splice};
 
 pub mod sums;
@@ -24,11 +24,11 @@ pub fn put<T: Copy, const N: usize>(s: &mut [T], at: usize, items: [T; N])
     s[at..at + N].copy_from_slice(&items);
 }
 
-// Copies `count` words from place `from` of another list to place `to`.
-#[tactic(auto, using(crate::proofs::Copies::part_copied))]
-pub fn copy_from(s: &mut [u32], to: usize, source: &[u32], from: usize, count: usize)
-    requires { (to + count ≤ length s.old) × (from + count ≤ length source.now) }
-    ensures { s.new ≡ splice s.old to (take count (drop from source.now)) }
+// Copies words to the places from `to` on.
+#[tactic(auto, using(crate::proofs::Copies::part_written))]
+pub fn copy_from(s: &mut [u32], to: usize, source: &[u32])
+    requires { to + length source.now ≤ length s.old }
+    ensures { s.new ≡ splice s.old to source.now }
 {
-    s[to..to + count].copy_from_slice(&source[from..from + count]);
+    s[to..to + source.len()].copy_from_slice(source);
 }

@@ -23,6 +23,15 @@ pub record PartAsks (h : Header) (ws : List ℕ) : Type 0 where
   pub whole : length ws ≡ h.words
   pub sound : sound_shelf h ws ≡ true
 
+-- Room for the places of the lanes or the buckets, and for the events of a window or a bucket.
+pub record Room (pos ends to a b places : List ℕ) : Type 0 where
+  pub starts : 2048 ≤ length pos
+  pub limits : 2048 ≤ length ends
+  pub next : 2048 ≤ length to
+  pub here : 2048 ≤ length a
+  pub there : 2048 ≤ length b
+  pub table : 2048 ≤ length places
+
 -- The file of some notes' words, and of a shelf's words; its length if it fits an output; and the output with it.
 abbrev pub file_of : List ℕ → ℕ → ℕ → ℕ → List ℕ
 file_of s count δ beats = file_bytes δ beats (read_notes count s)

@@ -33,13 +33,24 @@ pub fn put_header(out: &mut [u8], delta: u32, size: u32)
 fn put_lent(take: Take, tables: &mut Tables, out: &mut [u8]) -> Option<usize>
     ensures { (result ≡ length_in (file take.entry) out.old) × (out.new ≡ output_of (file take.entry) out.old) }
 {
+    let Tables {
+        starts,
+        ends,
+        next,
+        a,
+        b,
+        places,
+        ..
+    } = tables;
     if let Some(ticks) = wide::bucket_ticks(take.notes, take.end(), out.len()) {
         let width = Divisor::new(ticks);
-        if buckets::plan(take.notes, width, &mut tables.ends) {
-            return Some(wide::put_wide(take, width, tables, out));
+        if buckets::plan(take.notes, width, ends) {
+            return Some(wide::put_wide(
+                take, width, starts, ends, next, a, b, places, out,
+            ));
         }
     }
-    many::put_many(take, tables, out)
+    many::put_many(take, starts, ends, next, a, b, places, out)
 }
 
 // The file of a take, if it fits the output. Returns its length. Both ways of writing it work in the same tables, which are made here, so that they
@@ -77,7 +88,7 @@ pub fn put_shelf_file(h: Header, part: &[u32], out: &mut [u8]) -> Option<usize>
         count: part[1] as usize,
     };
     let take = Take {
-        notes: notes,
+        notes,
         delta: h.delta,
         beats: part[0],
     };

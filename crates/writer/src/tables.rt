@@ -1,5 +1,5 @@
-// The tables in which the events of many notes are put in order, each of 2,048. They are one value, so that they stand on the stack once, for whichever
-// way the file is written: their lanes for the way window by window, their buckets for the way bucket by bucket. Each step takes those that it needs.
+// The tables in which the events of many notes are put in order, each of 2,048. They are one value, so that they stand on the stack once, for
+// whichever way the file is written: by lanes, window by window, or by buckets. Each step is lent those that it needs.
 ghost use Rattle.std.specs.Prelude.{◌≡◌, length};
 
 #[derive(Drop)]

@@ -8,14 +8,14 @@ pub returns-then-track_most-room : goal.returns-then-track_most-room
 returns-then-track_most-room c = let m = rw c.end-end.ensures at c.track_most.ensures in bound-fits c.args.take.sound _ (omega (arith, c.if-track_most-room.true, m))
 
 pub runs-n-requires : goal.runs-n-requires
-runs-n-requires c = let l = c.args.tables.now.long in (ordered c.args.take.sound, omega (arith, l.0), omega (arith, l.1))
+runs-n-requires c = (ordered c.args.take.sound, c.requires.starts, c.requires.limits)
 
 pub length_left-length-requires : goal.length_left-length-requires
 length_left-length-requires c =
     let p = c.args.take.sound in
-    let l = c.args.tables.now.long in
+    let l = c.requires in
     let r = c.runs-n.ensures in
-    rw c.end-end.ensures (track_asks c.args.take r.0 r.1 (omega (arith, l.2)) (omega (arith, l.3)) (omega (arith, l.4)) (omega (arith, l.5)), omega (arith, left-short p r.0.all, p.few))
+    rw c.end-end.ensures (track_asks c.args.take r.0 r.1 l.next l.here l.there l.table, omega (arith, left-short p r.0.all, p.few))
 
 pub overflow_add-result : goal.overflow_add-result
 overflow_add-result c =

@@ -6,13 +6,13 @@ use Rattle.writer.proofs.Written.{left-short, left-room, header-room, file-put}
 use Rattle.writer.proofs.many.put_many.Goals as goal
 
 pub runs-n-requires : goal.runs-n-requires
-runs-n-requires c = let l = c.fits.new.tables.long in (ordered c.args.take.sound, omega (arith, l.0), omega (arith, l.1))
+runs-n-requires c = (ordered c.args.take.sound, omega (arith, c.requires.starts), omega (arith, c.requires.limits))
 
 pub put_left-behind-requires : goal.put_left-behind-requires
 put_left-behind-requires c =
     let r = c.runs-n.ensures in
-    let l = c.fits.new.tables.long in
-    rw c.end-end.ensures (track_asks c.args.take r.0 r.1 (omega (arith, l.2)) (omega (arith, l.3)) (omega (arith, l.4)) (omega (arith, l.5)), left-room c.args.take.sound r.0.all c.args.out.now (sym c.fits.ensures ∙ c.if-not-fits.false))
+    let l = c.requires in
+    rw c.end-end.ensures (track_asks c.args.take r.0 r.1 (omega (arith, l.next)) (omega (arith, l.here)) (omega (arith, l.there)) (omega (arith, l.table)), left-room c.args.take.sound r.0.all c.args.out.now (sym c.fits.ensures ∙ c.if-not-fits.false))
 
 pub overflow_cast-behind : goal.overflow_cast-behind
 overflow_cast-behind c =

@@ -1,0 +1,15 @@
+// Lanes of notes: where the events of each that are left begin and end.
+ghost use Rattle.order.specs.Notes.{events_of};
+ghost use Rattle.order.specs.Queues.{Queues};
+
+use crate::notes::Notes;
+
+// So many lanes: the events of lane l are those of the notes from place starts[l] up to ends[l].
+#[derive(Clone, Copy)]
+pub struct Lanes<'a> {
+    pub notes: Notes<'a>,
+    pub starts: &'a [u32],
+    pub ends: &'a [u32],
+    pub count: usize,
+    pub ghost queues: { Queues (events_of notes) starts.now ends.now count },
+}
