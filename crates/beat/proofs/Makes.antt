@@ -107,9 +107,6 @@ pub record Lining (s₀ s : List ℕ) (at δ : ℕ) (n : Note) (first beat line 
   pub high : beat ≤ last_beat δ n
   pub writes : Writes s₀ s at to (gather cell_words (cells_behind δ n first)) (gather cell_words (cells_behind δ n beat))
 
-pub lining_start : {s : List ℕ} {at δ : ℕ} {n : Note} {first next : ℕ} → LinesAsks s at δ n first next → Lining s s at δ n first first next at
-lining_start a = record { closes = a.closes; low = a.low; high = a.high; writes = writes_start _ _ _ }
-
 module _ {s₀ s : List ℕ} {at δ : ℕ} {n : Note} {first next beat line to : ℕ} (a : LinesAsks s₀ at δ n first next) (l : Lining s₀ s at δ n first beat line to) where
   i : Beats δ n
   i = note_beats δ n a.note
@@ -246,9 +243,6 @@ module _ {s₀ s : List ℕ} {at count δ end from to : ℕ} (a : CellsAsks s₀
   inside = omega (arith, l.ends, a.room, l.writes.long)
 
   module _ (more : from < end) where
-    pub room-note : from + 4 ≤ length s
-    room-note = omega (arith, l.whole, inside)
-
     module _ {n : Note} (is : n ≡ note_at s from) where
       -- the note is as it was when the call began
       was : n ≡ note_at s₀ from

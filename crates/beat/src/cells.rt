@@ -12,6 +12,7 @@ use session::beats::Divisor;
 use session::notes;
 
 // The cell of a note on a line of a beat.
+#[tactic(auto, unfolding(model::specs::Pieces::cell_at))]
 fn put_cell(s: &mut [u32], at: usize, n: Note, beat: u32, side: u32, line: u32)
     requires { (at + 6 ≤ length s.old) × (n.start ≤ line) × (line ≤ n.end) }
     ensures { s.new ≡ splice s.old at (cell_words (cell_at n beat side line)) }

@@ -110,6 +110,7 @@ fn most_pairs(first: Contents, second: Contents) -> usize
 }
 
 // Do the three counts, two takes' notes and cells, and so many notes more, fit a shelf where so many notes are fewer?
+#[tactic(auto, unfolding(crate::specs::Counting::counted_words))]
 fn counts_fit(h: Header, first: Contents, second: Contents, more: usize, fewer: usize) -> bool
     requires { CountsAsks h first second more fewer }
     ensures { result ≡ leb (counted_words first second more) (h.words + 4 * fewer) }

@@ -1,22 +1,17 @@
 -- The rules for cells by what the code tests, one law for each way out. Assumes nothing.
 use mathlib.Core.Path.{◌≡◌, refl, sym, ◌∙◌}
 use mathlib.Core.Bool.{Bool, true, false, not, ◌&&◌, ◌||◌}
-use Prim.Native.Nat.{ℕ, suc, ◌+◌, ◌*◌, ◌-◌, ◌/◌, ◌≤◌, ◌<◌}
-use native.Mathlib.Nat.{mul-le-mul, suc-mul}
-use native.Mathlib.Numerals.{add-one}
+use Prim.Native.Nat.{ℕ, suc, ◌+◌, ◌*◌, ◌/◌, ◌≤◌, ◌<◌}
+use native.Mathlib.Nat.{suc-mul}
 use native.Mathlib.Omega.{arith}
 use lib.Dec.{leb, ltb, eqb}
 use borrow.Author.Tests.{eq-eqb, ne_eqb, lt-ltb, le-ltb, lt-leb, le-leb, ltb-true, ltb-false, leb-true, leb-false, eqb-true, eqb-false}
-use Rattle.model.specs.Binding.{fills, start_of, end_of}
+use Rattle.model.specs.Binding.{fills}
 use Rattle.model.specs.Pieces.{first_beat, inside_at, inside}
 use Rattle.model.specs.Soundness.{cell_before, filled, partners}
 use Rattle.model.specs.declared.Note.{Note}
 use Rattle.model.specs.declared.Cell.{Cell}
 use Rattle.laws.specs.Chain.{same_beat, neighbours, clear}
-
--- a product of 32-bit numbers, the first of them or one more, fits 64 bits with a 32-bit number added
-pub product_fits : (a b : ℕ) → a ≤ 4294967296 → b ≤ 4294967295 → a * b ≤ 18446744069414584320
-product_fits a b p q = mul-le-mul p q
 
 -- ---- the order of lanes and beats, as one number
 
@@ -86,16 +81,7 @@ module _ (c d : Cell) where
             rw (no, f, le-ltb c.beat d.beat (omega arith), ne_eqb c.beat d.beat (λ z. omega arith))
         go false f = rw (no, f)
 
--- ---- where a piece lies
-
-module _ (δ : ℕ) (c : Cell) where
-  pub start_close : (c.side ≡ 0 → ⊥) → (c.beat + 1) * δ - c.before ≡ start_of δ c
-  unfolding start_of
-  start_close e = rw (ne_eqb _ _ e, add-one)
-
-  pub end_close : (c.side ≡ 0 → ⊥) → (c.beat + 1) * δ ≡ end_of δ c
-  unfolding end_of
-  end_close e = rw (ne_eqb _ _ e, add-one)
+-- ---- where a note lies
 
 module _ (δ : ℕ) (n : Note) where
   module _ {b : ℕ} (is : b ≡ first_beat δ n) where

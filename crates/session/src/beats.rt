@@ -35,6 +35,7 @@ impl Divisor {
 }
 
 // 2^42 / δ + 1.
+#[tactic(auto, unfolding(crate::specs::Dividing::reciprocal_of))]
 pub fn reciprocal(delta: u32) -> u64
     requires { 0 < delta }
     ensures { result ≡ reciprocal_of delta }

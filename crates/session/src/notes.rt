@@ -8,6 +8,7 @@ use crate::rules;
 use model::{Cell, Header, Note};
 
 // The note whose four words begin at place `at`.
+#[tactic(auto, unfolding(crate::specs::Reading::note_at))]
 pub fn note_at(s: &[u32], at: usize) -> Note
     requires { at + 4 ≤ length s.now }
     ensures { result ≡ note_at s.now at }
@@ -21,6 +22,7 @@ pub fn note_at(s: &[u32], at: usize) -> Note
 }
 
 // The cell whose six words begin at place `at`.
+#[tactic(auto, unfolding(crate::specs::Reading::cell_at))]
 pub fn cell_at(s: &[u32], at: usize) -> Cell
     requires { at + 6 ≤ length s.now }
     ensures { result ≡ cell_at s.now at }

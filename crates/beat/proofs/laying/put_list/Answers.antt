@@ -6,23 +6,11 @@ use Rattle.beat.proofs.laying.put_list.Goals as goal
 pub shelf_at-at-requires : goal.shelf_at-at-requires
 shelf_at-at-requires c = omega (arith, sized c.requires, c.requires.below)
 
-pub overflow_add-at : goal.overflow_add-at
-overflow_add-at c = omega (arith, sized c.requires, c.shelf_at-at.ensures)
-
 pub copy_from-requires : goal.copy_from-requires
 copy_from-requires c = omega (arith, sized c.requires, c.shelf_at-at.ensures)
 
-pub overflow_add-at-2 : goal.overflow_add-at-2
-overflow_add-at-2 c = omega (arith, sized c.requires, c.shelf_at-at.ensures)
-
 pub put_cells-requires : goal.put_cells-requires
 put_cells-requires c = cells_asks c.requires c.shelf_at-at.ensures c.copy_from.ensures
-
-pub overflow_cast-h : goal.overflow_cast-h
-overflow_cast-h c = omega (arith, sized c.requires)
-
-pub overflow_cast-count : goal.overflow_cast-count
-overflow_cast-count c = omega (arith, sized c.requires)
 
 pub put_frame-requires : goal.put_frame-requires
 put_frame-requires c = frame_asks c.requires c.shelf_at-at.ensures c.copy_from.ensures c.put_cells.ensures

@@ -3,7 +3,7 @@ use mathlib.Core.Path.{ap, ◌∙◌}
 use Rattle.model.specs.Numbers.{answer_number}
 use Rattle.model.proofs.Numbers.{passed_on}
 use Rattle.beat.proofs.Calls.{no_header, header_ok_lem}
-use Rattle.beat.proofs.Splits.{number_is, refused, split_asks, done}
+use Rattle.beat.proofs.Splits.{number_is, refused, done}
 use Rattle.beat.proofs.splitting.take_split.Goals as goal
 
 pub returns-in_err-header : goal.returns-in_err-header
@@ -18,9 +18,6 @@ pub returns-in_err-asked : goal.returns-in_err-asked
 returns-in_err-asked c =
     let no = refused _ _ _ _ _ c.in_ok-header.ensures _ c.in_err-asked.ensures in
     record { number = ap answer_number (passed_on c.from_residual-in_err-asked.ensures.1) ∙ no.0; words = no.1 }
-
-pub put_halves-requires : goal.put_halves-requires
-put_halves-requires c = split_asks _ _ _ _ _ c.in_ok-header.ensures c.in_ok-asked.ensures
 
 pub returns : goal.returns
 returns c =

@@ -4,15 +4,6 @@ use Rattle.cuts.proofs.JoinWords.{first_read, second_read}
 use Rattle.cuts.proofs.JoinFits.{most_asks, fits-at_once, seams_asks, exact_asks, fits_counted}
 use Rattle.cuts.proofs.counting.join_fits.Goals as goal
 
-pub contents_of-a-requires : goal.contents_of-a-requires
-contents_of-a-requires c = c.requires.asks.first_below
-
-pub contents_of-b-requires : goal.contents_of-b-requires
-contents_of-b-requires c = c.requires.asks.second_below
-
-pub beats_at-requires : goal.beats_at-requires
-beats_at-requires c = c.requires.asks.first_below
-
 pub counts_fit-requires : goal.counts_fit-requires
 counts_fit-requires c = most_asks c.requires.asks (read (first_read c.requires.asks) c.contents_of-a.ensures) (read (second_read c.requires.asks) c.contents_of-b.ensures) c.most_pairs.ensures
 

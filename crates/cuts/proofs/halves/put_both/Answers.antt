@@ -4,9 +4,6 @@ use Rattle.cuts.proofs.HalfWords.{range, read}
 use Rattle.cuts.proofs.SplitWords.{notes_asks, cells_asks, left_counts, right_counts, both-put}
 use Rattle.cuts.proofs.halves.put_both.Goals as goal
 
-pub contents_of-from-requires : goal.contents_of-from-requires
-contents_of-from-requires c = c.requires.left_asks.take_below
-
 pub shelf_at-l-requires : goal.shelf_at-l-requires
 shelf_at-l-requires c = place_asks (range c.requires.left_asks) c.requires.left_asks.to_below
 

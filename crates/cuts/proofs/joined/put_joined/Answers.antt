@@ -5,12 +5,6 @@ use Rattle.cuts.proofs.JoinWords.{range, first_read, second_read}
 use Rattle.cuts.proofs.JoinedWords.{notes_asks, cells_asks, counts_asks, join-put}
 use Rattle.cuts.proofs.joined.put_joined.Goals as goal
 
-pub contents_of-a-requires : goal.contents_of-a-requires
-contents_of-a-requires c = c.requires.asks.first_below
-
-pub contents_of-b-requires : goal.contents_of-b-requires
-contents_of-b-requires c = c.requires.asks.second_below
-
 pub shelf_at-at-requires : goal.shelf_at-at-requires
 shelf_at-at-requires c = place_asks (range c.requires.asks) c.requires.asks.to_below
 
