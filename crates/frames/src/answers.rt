@@ -21,6 +21,9 @@ fn number(outcome: Result<(), Refusal>) -> u8
     }
 }
 
+// The answers are written from a place of any slice on that is long enough: each function here asks for the room that is left there. A struct of
+// slice and place would be lent on field by field.
+
 // Writes an answer without a file from place `at` on: its number and a line feed. Returns the place behind it.
 fn put_number(out: &mut [u8], at: usize, outcome: Result<(), Refusal>) -> usize
     requires { at + 3 ≤ length out.old }

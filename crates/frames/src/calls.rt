@@ -39,7 +39,8 @@ impl From<Refusal> for u8 {
     }
 }
 
-// The most words of a lay's notes.
+// The most words of a lay's notes: why no frame may have more than 2,000 bytes. That is asked of a slice, and is no fact of a type: no caller has
+// to make one of it.
 const MAX_NOTE_WORDS: usize = 500;
 
 // The bytes of the largest file that is written.

@@ -32,7 +32,8 @@ impl Sounding {
         requires { (channel < 16) × (key < 128) }
         ensures { result ≡ lane_note (table_of self.now) tick (128 * channel + key) }
     {
-        let sound = self.lanes[channel as usize][key as usize];
+        // By reference: a copy of both numbers at once would wait for the stores that put them there one by one.
+        let sound = &self.lanes[channel as usize][key as usize];
         Note {
             lane: 128 * channel + key,
             start: sound.start,
