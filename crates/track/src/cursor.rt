@@ -222,7 +222,7 @@ impl Play {
 impl Event {
     // The same event, copied field by field. A copy of all at once, as a derive's, keeps each event of a loop in memory where one comes from a
     // call: then the notes that are read without a call are stored and loaded again too (tried: nine stores and a load more for each note).
-    fn again(self) -> Event
+    pub fn again(self) -> Event
         ensures { result ≡ self }
     {
         match self {
@@ -246,7 +246,7 @@ impl Cursor {
     }
 
     // The same place, copied field by field.
-    fn again(self) -> Cursor
+    pub fn again(self) -> Cursor
         ensures { result ≡ self }
     {
         Cursor {

@@ -45,9 +45,7 @@ fn put_lent(take: Take, tables: &mut Tables, out: &mut [u8]) -> Option<usize>
     if let Some(ticks) = wide::bucket_ticks(take.notes, take.end(), out.len()) {
         let width = Divisor::new(ticks);
         if buckets::plan(take.notes, width, ends) {
-            return Some(wide::put_wide(
-                take, width, starts, ends, next, a, b, places, out,
-            ));
+            return Some(wide::put_wide(take, width, starts, ends, next, a, b, places, out));
         }
     }
     many::put_many(take, starts, ends, next, a, b, places, out)

@@ -13,6 +13,7 @@ pub put_wide-requires : goal.put_wide-requires
 put_wide-requires c =
     let n = c.plan.ensures in
     let w = rw c.end.ensures at c.in-Some.ensures in
-    let l = c.args.tables.now.long in
-    (record { fair = n.fair c.if-plan.true; places = n.places c.if-plan.true; fits = w.fits },
-    record { starts = omega (arith, l.0); limits = omega (arith, l.1); next = omega (arith, l.2); here = omega (arith, l.3); there = omega (arith, l.4); table = omega (arith, l.5) })
+    let l = c.args.tables.now.long in (
+      record { fair = n.fair c.if-plan.true; places = n.places c.if-plan.true; fits = w.fits },
+      record { starts = omega (arith, l.0); limits = omega (arith, l.1); next = omega (arith, l.2); here = omega (arith, l.3); there = omega (arith, l.4); table = omega (arith, l.5) },
+    )
