@@ -181,8 +181,8 @@ pub struct Ends {
     pub right: usize,
 }
 
-// Where each half's next note goes, and how many cells, up to the same place, are left among which the left half's closing cells on the line are looked for, and
-// the right half's opening cells.
+// Where each half's next note goes, and how many cells, up to the same place, are left among which the left half's closing cells on the line
+// are looked for, and the right half's opening cells.
 #[derive(Drop)]
 pub struct Cursors {
     pub to: Ends,
