@@ -87,7 +87,8 @@ fn put_note(s: &mut [u32], at: usize, by: Divisor, n: Note) -> usize
     put_lines(s, to, by.delta, n, first, line + by.delta)
 }
 
-// The cells of `count` notes that stand from place `at` on, written behind them. Returns the place behind the cells.
+// The cells of `count` notes that stand from place `at` on, written behind them. Returns the place behind the cells. A place and a count, no slice: the
+// notes stand in the session that is written.
 pub fn put_cells(s: &mut [u32], at: usize, count: usize, delta: u32) -> usize
     requires { CellsAsks s.old at count delta }
     ensures { Made s.old (at + 4 * count) (cells_at delta s.old at count) s.new result }

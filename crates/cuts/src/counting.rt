@@ -86,7 +86,7 @@ fn count_seams(s: &[u32], h: Header, beats: u32, first: Contents, second: Conten
     let mut over = second.cells;
     let mut pairs = 0;
     let mut alone = 0;
-    // No range: each turn goes behind all cells of a lane.
+    // No `for`: each turn goes behind all cells of a lane, and both takes go on together, so that an iterator would have to hold both.
     while 0 < left.left {
         let lane = left.lane(s).min(over.lane(s));
         let a = cell_run(s, lane, left);

@@ -177,7 +177,7 @@ pub fn put_joined_notes(
         second,
     };
     let mut lane = seam::least_lane(s, first, second);
-    // No range: each turn goes to the next lane that has a note or a cell.
+    // No `for`: each turn goes to the next lane that has a note or a cell, which shows only when the lane before it is written.
     while lane < 2048 {
         rests = put_lane(s, line, lane, rests);
         lane = seam::least_lane(s, rests.first, rests.second);

@@ -52,7 +52,7 @@ fn track_from(s: &[u8], from: usize) -> Result<Found, Question>
     ensures { place_of result ≡ chunk_place (track_after s.now from) }
 {
     let mut at = from;
-    // No `for`: each step is as long as its chunk says. The first answer of no leaves the loop with its question.
+    // No `for`: each step is as long as its chunk says. The first answer of no leaves the loop with its question, the form that the project asks for.
     let question = 'chunks: loop {
         if s.len() - at < 8 {
             break 'chunks Question::TrackReached;

@@ -1,4 +1,5 @@
-// The cutter over some thousands of frames of every kind; a second implementation gave the expected output.
+// The cutter over some thousands of frames of every kind; a second implementation gave the expected output. A program of its own, since a program
+// is tested with one input.
 #![tactic(auto)]
 
 fn main(rt: HostRuntime) {

@@ -24,7 +24,8 @@ pub fn from_beat(cells: &[CellWords], lane: u32, beat: u32) -> &[CellWords]
     from_first(cells, |c, _| !is_earlier(lane, beat, c))
 }
 
-// The same among the last `left` cells up to place `end`: how many are left from that cell on. A later search goes on from there.
+// The same among the last `left` cells up to place `end`: how many are left from that cell on. A later search goes on from there. Places and a count,
+// no slices: split writes into the session that it reads from meanwhile, which C passes as one list.
 pub fn cells_from(part: &[u32], end: usize, left: usize, lane: u32, beat: u32) -> usize
     requires { (6 * left ≤ end) × (end ≤ length part.now) }
     ensures { (last_cells part.now end result ≡ skip lane beat (last_cells part.now end left)) × (result ≤ left) }

@@ -304,7 +304,8 @@ impl Cursor {
         Event::Next(next, Some(note_message(status, s[at + 2], s[at + 3])))
     }
 
-    // Does a note of three bytes stand here: a time of one group, key and velocity, with 8n or 9n in force?
+    // Does a note of three bytes stand here: a time of one group, key and velocity, with 8n or 9n in force? This and the next function are not one
+    // with the two above: where the status is read would be a switch in each.
     pub fn runs(self, s: &[u8]) -> bool
         requires { self.at ≤ length s.now }
         ensures { result ≡ true → Running s.now self.at self.running }

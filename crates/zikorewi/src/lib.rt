@@ -1,4 +1,5 @@
-// The C library: the six calls, exported to C under the clauses of the functions that they call.
+// The C library: the six calls, exported to C under the clauses of the functions that they call. C takes a number for an answer, and one list for a
+// session that is read and written.
 #![tactic(auto)]
 
 ghost use Rattle.std.specs.Prelude.{◌≡◌, length};
