@@ -24,7 +24,7 @@ def lines(pattern, comments=False):
 def functions():
     """(place, name, parameters, clauses, body) of each function."""
     for name, body in text.items():
-        for m in re.finditer(r"^( *)(?:pub )?(?:extern \"C\" )?fn (\w+)", body, re.M):
+        for m in re.finditer(r"^( *)(?:pub(?:\(crate\))? )?(?:extern \"C\" )?fn (\w+)", body, re.M):
             end = body.find("\n" + m.group(1) + "}", m.start())
             item = body[m.start():end]
             start = item.find("(")
