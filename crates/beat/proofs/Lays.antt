@@ -62,8 +62,11 @@ module _ {s : List ℕ} {h : Header} {shelf beats : ℕ} {ws : List ℕ} {count 
   cells_are = a.cells
 
   module _ {at : ℕ} (place : at ≡ shelf_at h shelf) {s₁ : List ℕ} (copied : s₁ ≡ splice s (at + 3) ws) where
+    notes_in_lem : s₁ ≡ splice s (at + 3) ws
+    notes_in_lem = copied
+
     long : length s₁ ≡ length s
-    long = ap length copied ∙ length-splice s (at + 3) ws
+    long = ap length notes_in_lem ∙ length-splice s (at + 3) ws
 
     notes_are : read_notes k (drop (at + 3) s₁) ≡ ns
     notes_are = rw copied (notes-written k s (at + 3) ws sized.whole (omega (arith, sized, place)))

@@ -1,11 +1,11 @@
 -- The sounding table that the code keeps, as the definitions see it. Assumes nothing.
 use Rattle.std.specs.Prelude.{ℕ, List, map}
 use Rattle.midi.specs.Sounding as M
-use Rattle.reader.specs.declared.sounding.Sound.{Sound}
+use Rattle.reader.specs.declared.sounding.Sounded.{Sounded}
 use Rattle.reader.specs.declared.sounding.Sounding.{Sounding}
 
 -- One number of each lane.
-abbrev pub of_lanes : (Sound → ℕ) → Sounding → List (List ℕ)
+abbrev pub of_lanes : (Sounded → ℕ) → Sounding → List (List ℕ)
 of_lanes f t = map (map f) t.lanes
 
 -- Its start ticks and its velocities.

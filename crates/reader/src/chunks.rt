@@ -1,5 +1,5 @@
 // The header and the chunks of a file (questions 9 to 11): where its track is.
-ghost use Rattle.std.specs.Prelude.{◌≡◌, ◌+◌, ◌≤◌, ◌<◌, length};
+ghost use Rattle.std.specs.Prelude.{◌≡◌, ◌≤◌, length};
 ghost use Rattle.midi.specs.Numbers as N;
 ghost use Rattle.midi.specs.Reading.{header_there, header_fits};
 ghost use Rattle.midi.proofs.Loops.{track_after};
@@ -52,7 +52,8 @@ fn track_from(s: &[u8], from: usize) -> Result<Found, Question>
     ensures { place_of result ≡ chunk_place (track_after s.now from) }
 {
     let mut at = from;
-    // No `for`: each step is as long as its chunk says. The first answer of no leaves the loop with its question, the form that the project asks for.
+    // No `for`: each step is as long as its chunk says. The first answer of no leaves the loop by a labelled exit with its question: the form that
+    // the project asks for.
     let question = 'chunks: loop {
         if s.len() - at < 8 {
             break 'chunks Question::TrackReached;

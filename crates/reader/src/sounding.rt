@@ -9,13 +9,13 @@ use model::Note;
 // What is kept of a lane: the start tick and the velocity of what sounds. The velocity of a silent lane is 0, as in the definition's table, and
 // there is no Option: the start stays behind a note's end, which `put_lane` promises, and no branch waits for either.
 #[derive(Clone, Copy)]
-pub struct Sound {
+pub struct Sounded {
     pub start: u32,
     pub velocity: u32,
 }
 
 // Nothing has sounded yet.
-pub const SILENT: Sound = Sound {
+pub const SILENT: Sounded = Sounded {
     start: 0,
     velocity: 0,
 };
@@ -23,7 +23,7 @@ pub const SILENT: Sound = Sound {
 // What is kept of each key of each channel.
 #[derive(Drop)]
 pub struct Sounding {
-    pub lanes: [[Sound; 128]; 16],
+    pub lanes: [[Sounded; 128]; 16],
 }
 
 impl Sounding {
@@ -48,7 +48,7 @@ impl Sounding {
         ensures starts { (table_of self.new).start ≡ put_lane (table_of self.old).start (128 * channel + key) start }
         ensures velocities { (table_of self.new).velocity ≡ put_lane (table_of self.old).velocity (128 * channel + key) velocity }
     {
-        self.lanes[channel as usize][key as usize] = Sound { start, velocity };
+        self.lanes[channel as usize][key as usize] = Sounded { start, velocity };
     }
 
     // Does no lane of a channel sound? All velocities are joined by "or", so that many are looked at in one step: 0 only where each of them is 0.

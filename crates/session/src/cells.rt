@@ -1,9 +1,8 @@
 // How many cells a note has.
 ghost use Rattle.std.specs.Prelude.{◌≡◌, ◌*◌, ◌≤◌, ◌<◌, length};
-ghost use Rattle.model.specs.Limits.{max_beats, max_delta};
+ghost use Rattle.model.specs.Limits.{max_beats};
 ghost use Rattle.model.specs.Pieces.{cells_of_note};
 ghost use Rattle.session.specs.Counting.{line_sides};
-ghost use Rattle.session.specs.Dividing.{reciprocal_of};
 
 use crate::beats::Divisor;
 use model::Note;

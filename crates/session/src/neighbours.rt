@@ -1,5 +1,5 @@
 // What soundness asks of each cell by itself and of each cell and the next.
-ghost use Rattle.std.specs.Prelude.{◌≡◌, ◌&&◌, ◌||◌, not, ◌*◌, ◌≤◌, length};
+ghost use Rattle.std.specs.Prelude.{◌≡◌, ◌&&◌, ◌||◌, not};
 ghost use Rattle.model.specs.Lists.{every};
 ghost use Rattle.model.specs.Binding.{fills};
 ghost use Rattle.model.specs.Soundness.{cell_in_range, has_ticks, memory_within, filled, partners};

@@ -2,7 +2,7 @@
 ghost use Rattle.std.specs.Prelude.{◌≡◌, true, false, ◌&&◌, ◌*◌, ◌<◌, ◌≤◌, length};
 ghost use Rattle.model.specs.Limits.{max_beats, max_delta, min_words};
 ghost use Rattle.model.specs.Lists.{every};
-ghost use Rattle.model.specs.Pieces.{first_beat, inside};
+ghost use Rattle.model.specs.Pieces.{first_beat};
 ghost use Rattle.model.specs.Soundness.{note_ok, follows, sound_shelf};
 ghost use Rattle.laws.specs.Chain.{cell_ok, cells_sound};
 ghost use Rattle.session.specs.Checking.{notes_asked};

@@ -1,5 +1,5 @@
 // A place in a track, and the event that stands there (question 12).
-ghost use Rattle.std.specs.Prelude.{◌≡◌, true, Some, cond, eqb, ◌+◌, ◌*◌, ◌/◌, ◌≤◌, ◌<◌, ltb, length};
+ghost use Rattle.std.specs.Prelude.{◌≡◌, true, Some, cond, eqb, ◌*◌, ◌/◌, ◌≤◌, ◌<◌, ltb, length};
 ghost use Rattle.model.specs.Limits.{max_beats, max_delta};
 ghost use Rattle.midi.specs.Events.{place, channel_message, channel_at, meta_at, sysex_at, own_status, behind_time, event_at};
 ghost use Rattle.track.specs.Notes.{Plain, Running};
@@ -11,8 +11,9 @@ use crate::quantities;
 const END: u8 = 47;
 
 // Where reading stands: the position in the track, the tick of the last event, the running status in force (0: none). It is a byte, as in the
-// definition of a place: an Option would be no plainer, since no status is 0. That the position is inside the track and the tick within 4,096
-// beats is asked where it is needed, and is no fact of the type: a cursor does not have its track, and the tick behind an event is tested later.
+// definition of a place: an Option would be no plainer, since no status is 0, and `runs` and `running_event` would take it apart. That the position
+// is inside the track and the tick within 4,096 beats is asked where it is needed, and is no fact of the type: a cursor does not have its track, and
+// the tick behind an event is tested later.
 #[derive(Clone, Copy)]
 pub struct Cursor {
     pub at: usize,
@@ -20,8 +21,9 @@ pub struct Cursor {
     pub running: u8,
 }
 
-// The note of a channel's key starts, or with velocity 0 ends. Channel and key are two numbers, and no struct that says how large they are: it
-// would be made in one function, of a byte that is known to be data, and taken apart again where a table is read.
+// The note of a channel's key starts, or with velocity 0 ends, as a start of velocity 0 in a file does: a number and no enum, so that no branch
+// waits for it where the line sides are kept. Channel and key are two numbers, and no struct that says how large they are: it would be made in one
+// function, of a byte that is known to be data, and taken apart again where a table is read.
 #[derive(Clone, Copy)]
 pub struct Play {
     pub channel: u32,
@@ -90,8 +92,8 @@ fn data_at(s: &[u8], q: usize) -> Option<u8>
     if b < 128 { Some(b) } else { None }
 }
 
-// From here to `behind_time` each function takes what its definition takes, track, tick and position, one by one: a struct of them would be
-// made anew at each call, since the position moves on.
+// From here to `any_event` each function takes what its definition takes, track, tick and position, one by one: a struct of them would be
+// made anew at each call, since the position moves on, and passed through memory where the call is not put in.
 
 // The second data byte of a channel event, at q, and the event. Behind it its status is in force.
 fn second_data(s: &[u8], tick: u32, status: u8, key: u8, q: usize) -> Option<Event>
@@ -207,7 +209,7 @@ pub fn any_event(s: &[u8], at: usize, tick: u32, running: u8) -> Option<Event>
 }
 
 impl Play {
-    // The same message, copied field by field.
+    // The same message, copied field by field: see `Event::again`.
     fn again(self) -> Play
         ensures { result ≡ self }
     {
@@ -221,7 +223,8 @@ impl Play {
 
 impl Event {
     // The same event, copied field by field. A copy of all at once, as a derive's, keeps each event of a loop in memory where one comes from a
-    // call: then the notes that are read without a call are stored and loaded again too (tried: nine stores and a load more for each note).
+    // call: then the notes that are read without a call are stored and loaded again too (tried: nine stores and a load
+    // more for each note, so that a load takes longer than the second implementation's).
     pub fn again(self) -> Event
         ensures { result ≡ self }
     {
@@ -245,7 +248,7 @@ impl Cursor {
         }
     }
 
-    // The same place, copied field by field.
+    // The same place, copied field by field: see `Event::again`.
     pub fn again(self) -> Cursor
         ensures { result ≡ self }
     {
