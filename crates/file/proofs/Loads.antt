@@ -24,8 +24,8 @@ use Rattle.midi.specs.Numbers.{word32}
 use Rattle.midi.specs.Reading.{FileAnswer, refused, read, read_track, MTrk, header_there, header_fits, chunk_there, Chunk, track_from, read_file}
 use Rattle.midi.proofs.Branches.{by_test}
 use Rattle.midi.proofs.Recordings.{track-sound, Sound, refused_number}
-use Rattle.session.proofs.Entries.{Entered, entry_refused}
-use Rattle.std.specs.Prelude.{Err}
+use Rattle.session.proofs.Entries.{Entered, granted_means, entry_refused}
+use Rattle.std.specs.Prelude.{Ok, Err}
 use Rattle.model.specs.Numbers.{number_of, answer_of}
 use Rattle.model.proofs.Numbers.{kept}
 use Rattle.model.specs.declared.questions.Question.{Question}
@@ -170,9 +170,9 @@ module _ (s : List ℕ) (i : ℕ) (file : List ℕ) where
       (is, kept q (load_number s i file) is (loaded g s i (read_file g.delta file)) s)
 
   -- questions 1 and 2 answered yes
-  module _ {h : Header} (e : Entered s i h) where
-    pub shelf_entered : ShelfAsks s h i
-    shelf_entered = record { header = rw e.same e.header; below = rw e.same e.below }
+  module _ {h : Header} (granted : answer_of words_of_header (Ok h) ≡ entry_asked s i) where
+    e : Entered s i h
+    e = granted_means s i h granted
 
     entered_number : load_number s i file ≡ read_number h (read_file h.delta file)
     entered_number = load_is ∙ rw (e.header, lt-ltb i g.shelves e.below) (ap (λ (k : Header). read_number k (read_file k.delta file)) (sym e.same))
