@@ -67,15 +67,17 @@ read_is h r z v =
 
 -- ---- the track
 
+-- what the first pass asks, and question 8
+module _ (h : Header) (n : ℕ) (ok : header_ok h n ≡ true) where
+  pub times : Times h.delta 0
+  times = let range = in_range ok in record { some = range.some-ticks; most = range.few_ticks; early = omega arith }
+
+  pub few_words : h.words ≤ max_words
+  few_words = (in_range ok).small
+
 module _ {s : List ℕ} {h : Header} {i : ℕ} (a : ShelfAsks s h i) where
   range : InRange h (length s)
   range = in_range a.header
-
-  pub times : Times h.delta 0
-  times = record { some = range.some-ticks; most = range.few_ticks; early = omega arith }
-
-  pub room_asks : h.words ≤ max_words
-  room_asks = range.small
 
   module _ (t : List ℕ) where
     abbrev answer : FileAnswer
@@ -105,8 +107,8 @@ module _ {s : List ℕ} {h : Header} {i : ℕ} (a : ShelfAsks s h i) where
         pub track_full : not o ≡ true → Answered h s i answer 8 s
         track_full t = answered_refused h s i answer ResultFits (sym (number_is ∙ rw (sym f ∙ not-true o t)))
 
-        pub track-room : not o ≡ false → words_used notes cells ≤ h.words
-        track-room t = leb-true (words_used notes cells) h.words (sym f ∙ not-false o t)
+        pub track_room : not o ≡ false → words_used notes cells ≤ h.words
+        track_room t = leb-true (words_used notes cells) h.words (sym f ∙ not-false o t)
 
         pub track_asks : not o ≡ false → {table : List ℕ} → CountsOf answer table → RecordingAsks s h i t table beats notes cells
         track_asks t c = record {
@@ -116,12 +118,12 @@ module _ {s : List ℕ} {h : Header} {i : ℕ} (a : ShelfAsks s h i) where
           beats_are = k.beats_are;
           notes_are = k.notes_are;
           cells_are = k.cells_are;
-          fits = track-room t;
+          fits = track_room t;
           counted = c.counted k.got k.is;
         }
 
-        pub track-done : not o ≡ false → {after : List ℕ} → after ≡ loaded h s i answer → Answered h s i answer 0 after
-        track-done t g = answered-done h s i answer (number_is ∙ rw (sym f ∙ not-false o t)) g
+        pub track_done : not o ≡ false → {after : List ℕ} → after ≡ loaded h s i answer → Answered h s i answer 0 after
+        track_done t g = answered-done h s i answer (number_is ∙ rw (sym f ∙ not-false o t)) g
 
 -- ---- the place of the track
 
@@ -146,8 +148,8 @@ place_inside δ s =
     by_test (Inside (length s)) (header_there s)
     (λ e. by_test (Inside (length s)) (header_fits δ s) (λ f. from-inside (length s) s (8 + word32 s 4)) (λ f. tt)) (λ e. tt)
 
-pub track-inside : (δ : ℕ) (s : List ℕ) {at end : ℕ} → bytes at end ≡ track_place δ s → (at ≤ end) × (end ≤ length s)
-track-inside δ s e = rw (← e) at (place_inside δ s)
+pub track_inside : (δ : ℕ) (s : List ℕ) {at end : ℕ} → bytes at end ≡ track_place δ s → (at ≤ end) × (end ≤ length s)
+track_inside δ s e = rw (← e) at (place_inside δ s)
 
 -- ---- the call
 
