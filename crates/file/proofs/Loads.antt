@@ -1,10 +1,10 @@
 -- Load: the number and the words, by the way that the call goes. Assumes nothing.
-use mathlib.Core.Bool.{Bool, true, false, cond, not}
+use mathlib.Core.Bool.{Bool, true, false, cond}
 use mathlib.Core.List.{List, []}
 use mathlib.Core.Path.{◌≡◌, refl, sym, ap, ◌∙◌}
 use Prim.Native.Nat.{ℕ, zero, suc, ◌+◌, ◌-◌, ◌≤◌, ◌<◌}
 use native.Mathlib.Omega.{arith}
-use borrow.Author.Tests.{leb-true, lt-ltb, not-true, not-false}
+use borrow.Author.Tests.{leb-true, lt-ltb}
 use lib.Dec.{leb, ltb, eqb}
 use lib.ListN.{length, take, drop}
 use Rattle.model.specs.Lists.{gather}
@@ -23,7 +23,7 @@ use Rattle.laws.specs.OneNote.{Valid}
 use Rattle.midi.specs.Numbers.{word32}
 use Rattle.midi.specs.Reading.{FileAnswer, refused, read, read_track, MTrk, header_there, header_fits, chunk_there, Chunk, track_from, read_file}
 use Rattle.midi.proofs.Branches.{by_test}
-use Rattle.midi.proofs.Recordings.{track-sound, Sound, refused_number}
+use Rattle.midi.proofs.Recordings.{track-sound, Sound}
 use Rattle.session.proofs.Entries.{Entered, granted_means, entry_refused}
 use Rattle.std.specs.Prelude.{Ok, Err}
 use Rattle.model.specs.Numbers.{number_of, answer_of}
@@ -104,13 +104,13 @@ module _ {s : List ℕ} {h : Header} {i : ℕ} (a : ShelfAsks s h i) where
           ∙ ap (λ (n : ℕ). cond (leb (words_used notes n) h.words) 0 8) (sym k.cells_are)
 
       module _ {o : Bool} (f : o ≡ leb (words_used notes cells) h.words) where
-        pub track_full : not o ≡ true → Answered h s i answer 8 s
-        track_full t = answered_refused h s i answer ResultFits (sym (number_is ∙ rw (sym f ∙ not-true o t)))
+        pub track_full : o ≡ false → Answered h s i answer 8 s
+        track_full t = answered_refused h s i answer ResultFits (sym (number_is ∙ rw (sym f ∙ t)))
 
-        pub track_room : not o ≡ false → words_used notes cells ≤ h.words
-        track_room t = leb-true (words_used notes cells) h.words (sym f ∙ not-false o t)
+        pub track_room : o ≡ true → words_used notes cells ≤ h.words
+        track_room t = leb-true (words_used notes cells) h.words (sym f ∙ t)
 
-        pub track_asks : not o ≡ false → {table : List ℕ} → CountsOf answer table → RecordingAsks s h i t table beats notes cells
+        pub track_asks : o ≡ true → {table : List ℕ} → CountsOf answer table → RecordingAsks s h i t table beats notes cells
         track_asks t c = record {
           entry = a;
           recording = k.got;
@@ -122,8 +122,8 @@ module _ {s : List ℕ} {h : Header} {i : ℕ} (a : ShelfAsks s h i) where
           counted = c.counted k.got k.is;
         }
 
-        pub track_done : not o ≡ false → {after : List ℕ} → after ≡ loaded h s i answer → Answered h s i answer 0 after
-        track_done t g = answered-done h s i answer (number_is ∙ rw (sym f ∙ not-false o t)) g
+        pub track_done : o ≡ true → {after : List ℕ} → after ≡ loaded h s i answer → Answered h s i answer 0 after
+        track_done t g = answered-done h s i answer (number_is ∙ rw (sym f ∙ t)) g
 
 -- ---- the place of the track
 

@@ -1,5 +1,4 @@
 -- `file::loading::load_track` meets its contract.
-use mathlib.Core.Bool.{not}
 use mathlib.Core.Path.{ap, ◌∙◌}
 use Rattle.model.specs.Numbers.{answer_number}
 use Rattle.model.proofs.Numbers.{passed_on}
@@ -13,10 +12,10 @@ returns-in_err-counted c =
 
 pub returns-then-not-fits : goal.returns-then-not-fits
 returns-then-not-fits c =
-    let all = track_full c.requires _ c.in_ok-counted.ensures.answer c.fits.ensures (ap not c.if-not-fits.true) in
+    let all = track_full c.requires _ c.in_ok-counted.ensures.answer c.fits.ensures c.if-not-fits.true in
     record { number = all.0; words = all.1 }
 
 pub returns : goal.returns
 returns c =
-    let all = track_done c.requires _ c.in_ok-counted.ensures.answer c.fits.ensures (ap not c.if-not-fits.false) c.put_recording.ensures in
+    let all = track_done c.requires _ c.in_ok-counted.ensures.answer c.fits.ensures c.if-not-fits.false c.put_recording.ensures in
     record { number = all.0; words = all.1 }
