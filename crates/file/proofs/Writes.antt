@@ -107,7 +107,6 @@ module _ (s : List ℕ) (i : ℕ) (h : Header) (granted : answer_of words_of_hea
 
   -- the file's answer decides
   pub write_by_file : {r : Result ℕ Question} {after : List ℕ} → r ≡ file_answer h ws out → after ≡ file_left h ws out → Wrote s i out (answer_number r) (counted r) after
-  unfolding file_answer file_left
   write_by_file {r} {after} answer leaves = go (sound_shelf h ws) (leb (length file) (length out)) refl refl
     where
       go : (a b : Bool) → sound_shelf h ws ≡ a → leb (length file) (length out) ≡ b → Wrote s i out (answer_number r) (counted r) after

@@ -8,11 +8,9 @@ use Rattle.model.specs.declared.questions.Question.TheVariants.{ShelvesSound, Fi
 use Rattle.writer.specs.Files.{file_in, length_in, output_of}
 
 -- The length of their file, or the first of questions 4 and 15 that is answered no.
-unfoldable pub file_answer : Header → List ℕ → List ℕ → Result ℕ Question
-unfolding sound_shelf
+abbrev pub file_answer : Header → List ℕ → List ℕ → Result ℕ Question
 file_answer h ws out = cond (sound_shelf h ws) (ok_or (length_in (file_in h ws) out) FileFits) (Err ShelvesSound)
 
 -- The output: the file, then what was there before; or as it was.
-unfoldable pub file_left : Header → List ℕ → List ℕ → List ℕ
-unfolding sound_shelf
+abbrev pub file_left : Header → List ℕ → List ℕ → List ℕ
 file_left h ws out = cond (sound_shelf h ws) (output_of (file_in h ws) out) out

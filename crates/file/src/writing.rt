@@ -14,7 +14,7 @@ use writer::files;
 // Questions 4 and 15: the file of a shelf, if the shelf is sound and the file fits the output. Returns its length.
 // No file is shorter than its header, 22 bytes. That question 4 stands in two places also keeps the compiler from putting it inside this
 // function, where a write takes a twentieth longer.
-#[tactic(auto, using(crate::proofs::Writes::too_short, crate::proofs::Writes::part_asks), unfolding(crate::specs::Writing::file_answer, crate::specs::Writing::file_left))]
+#[tactic(auto, using(crate::proofs::Writes::too_short, crate::proofs::Writes::part_asks))]
 fn put_file(s: SessionView, take: u32, output: &mut [u8]) -> Result<usize, Question>
     requires { take < s.header.shelves }
     ensures answer { result ≡ file_answer s.entry.header (shelf s.entry.header s.entry.words.now take) output.old }
