@@ -8,6 +8,7 @@ use borrow.Author.Tests.{lt-ltb, lt-leb}
 use lib.Dec.{leb, ltb}
 use lib.ListN.{length, length-append}
 use Rattle.words.specs.Splice.{splice}
+use Rattle.model.specs.Limits.{max_delta, min_words}
 use Rattle.model.specs.Questions.{header_ok}
 use Rattle.model.specs.Session.{header_of, words_of_header, shelf}
 use Rattle.model.specs.Soundness.{sound_shelf}
@@ -70,6 +71,10 @@ module _ (h : Header) (ws : List ℕ) where
   -- one shorter than that holds none
   pub too_short : (out : List ℕ) → length out < 22 → leb (length (file_in h ws)) (length out) ≡ false
   too_short out short = lt-leb (length (file_in h ws)) (length out) (omega (arith, file_long))
+
+  pub sound_asks : (len : ℕ) → header_ok h len ≡ true → length ws ≡ h.words
+      → (0 < h.delta) × (h.delta ≤ max_delta) × (h.epsilon ≤ h.delta) × (min_words ≤ h.words) × (length ws ≡ h.words)
+  sound_asks len ok long = let range = in_range ok in (range.some-ticks, range.few_ticks, range.kept-within, range.large, long)
 
   pub part_asks : (len : ℕ) → header_ok h len ≡ true → length ws ≡ h.words → sound_shelf h ws ≡ true → PartAsks h ws
   part_asks len ok long sound =

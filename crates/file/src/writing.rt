@@ -5,31 +5,31 @@ ghost use Rattle.model.specs.Numbers.{answer_number};
 ghost use Rattle.file.specs.Calls.{write_number, write_count, write_output};
 ghost use Rattle.file.specs.Writing.{file_answer, file_left};
 
-use beat::shelves;
 use model::questions::Question;
-use session::header;
 use session::view::SessionView;
+use session::{header, sound};
 use writer::files;
 
 // Questions 4 and 15: the file of a shelf, if the shelf is sound and the file fits the output. Returns its length.
 // No file is shorter than its header, 22 bytes. That question 4 stands in two places also keeps the compiler from putting it inside this
 // function, where a write takes a twentieth longer.
-#[tactic(auto, using(crate::proofs::Writes::too_short, crate::proofs::Writes::part_asks))]
+#[tactic(auto, using(crate::proofs::Writes::too_short, crate::proofs::Writes::sound_asks, crate::proofs::Writes::part_asks))]
 fn put_file(s: SessionView, take: u32, output: &mut [u8]) -> Result<usize, Question>
     requires { take < s.header.shelves }
     ensures answer { result ≡ file_answer s.entry.header (shelf s.entry.header s.entry.words.now take) output.old }
     ensures output { output.new ≡ file_left s.entry.header (shelf s.entry.header s.entry.words.now take) output.old }
 {
+    let part = s.shelf(take);
     if output.len() < 22 {
-        if shelves::is_sound(s, take) {
+        if sound::sound(s.header, part) {
             return Err(Question::FileFits);
         }
         return Err(Question::ShelvesSound);
     }
-    if !shelves::is_sound(s, take) {
+    if !sound::sound(s.header, part) {
         return Err(Question::ShelvesSound);
     }
-    files::put_shelf_file(s.header, s.shelf(take), output).ok_or(Question::FileFits)
+    files::put_shelf_file(s.header, part, output).ok_or(Question::FileFits)
 }
 
 // Writes a shelf's file to an output, and counts the file's bytes. Refuses with the first question that is answered no, and counts 0 then.
