@@ -1,4 +1,5 @@
 -- What the proofs of several functions share.
+pub mod Entries
 pub mod Writes
 pub mod Answers
 pub mod LaidRecordings

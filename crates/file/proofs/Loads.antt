@@ -1,10 +1,10 @@
 -- Load: the number and the words, by the way that the call goes. Assumes nothing.
-use mathlib.Core.Bool.{Bool, true, false, cond, not}
+use mathlib.Core.Bool.{Bool, true, false, cond}
 use mathlib.Core.List.{List, []}
 use mathlib.Core.Path.{◌≡◌, refl, sym, ap, ◌∙◌}
 use Prim.Native.Nat.{ℕ, zero, suc, ◌+◌, ◌-◌, ◌≤◌, ◌<◌}
 use native.Mathlib.Omega.{arith}
-use borrow.Author.Tests.{leb-true, lt-ltb, not-true, not-false}
+use borrow.Author.Tests.{leb-true, lt-ltb}
 use lib.Dec.{leb, ltb, eqb}
 use lib.ListN.{length, take, drop}
 use Rattle.model.specs.Lists.{gather}
@@ -23,9 +23,9 @@ use Rattle.laws.specs.OneNote.{Valid}
 use Rattle.midi.specs.Numbers.{word32}
 use Rattle.midi.specs.Reading.{FileAnswer, refused, read, read_track, MTrk, header_there, header_fits, chunk_there, Chunk, track_from, read_file}
 use Rattle.midi.proofs.Branches.{by_test}
-use Rattle.midi.proofs.Recordings.{track-sound, Sound, refused_number}
-use Rattle.session.proofs.Entries.{Entered, entry_refused}
-use Rattle.std.specs.Prelude.{Err}
+use Rattle.midi.proofs.Recordings.{track-sound, Sound}
+use Rattle.session.proofs.Entries.{Entered, granted_means, entry_refused}
+use Rattle.std.specs.Prelude.{Ok, Err}
 use Rattle.model.specs.Numbers.{number_of, answer_of}
 use Rattle.model.proofs.Numbers.{kept}
 use Rattle.model.specs.declared.questions.Question.{Question}
@@ -67,15 +67,17 @@ read_is h r z v =
 
 -- ---- the track
 
+-- what the first pass asks, and question 8
+module _ (h : Header) (n : ℕ) (ok : header_ok h n ≡ true) where
+  pub times : Times h.delta 0
+  times = let range = in_range ok in record { some = range.some-ticks; most = range.few_ticks; early = omega arith }
+
+  pub few_words : h.words ≤ max_words
+  few_words = (in_range ok).small
+
 module _ {s : List ℕ} {h : Header} {i : ℕ} (a : ShelfAsks s h i) where
   range : InRange h (length s)
   range = in_range a.header
-
-  pub times : Times h.delta 0
-  times = record { some = range.some-ticks; most = range.few_ticks; early = omega arith }
-
-  pub room_asks : h.words ≤ max_words
-  room_asks = range.small
 
   module _ (t : List ℕ) where
     abbrev answer : FileAnswer
@@ -102,13 +104,13 @@ module _ {s : List ℕ} {h : Header} {i : ℕ} (a : ShelfAsks s h i) where
           ∙ ap (λ (n : ℕ). cond (leb (words_used notes n) h.words) 0 8) (sym k.cells_are)
 
       module _ {o : Bool} (f : o ≡ leb (words_used notes cells) h.words) where
-        pub track_full : not o ≡ true → Answered h s i answer 8 s
-        track_full t = answered_refused h s i answer ResultFits (sym (number_is ∙ rw (sym f ∙ not-true o t)))
+        pub track_full : o ≡ false → Answered h s i answer 8 s
+        track_full t = answered_refused h s i answer ResultFits (sym (number_is ∙ rw (sym f ∙ t)))
 
-        pub track-room : not o ≡ false → words_used notes cells ≤ h.words
-        track-room t = leb-true (words_used notes cells) h.words (sym f ∙ not-false o t)
+        pub track_room : o ≡ true → words_used notes cells ≤ h.words
+        track_room t = leb-true (words_used notes cells) h.words (sym f ∙ t)
 
-        pub track_asks : not o ≡ false → {table : List ℕ} → CountsOf answer table → RecordingAsks s h i t table beats notes cells
+        pub track_asks : o ≡ true → {table : List ℕ} → CountsOf answer table → RecordingAsks s h i t table beats notes cells
         track_asks t c = record {
           entry = a;
           recording = k.got;
@@ -116,12 +118,12 @@ module _ {s : List ℕ} {h : Header} {i : ℕ} (a : ShelfAsks s h i) where
           beats_are = k.beats_are;
           notes_are = k.notes_are;
           cells_are = k.cells_are;
-          fits = track-room t;
+          fits = track_room t;
           counted = c.counted k.got k.is;
         }
 
-        pub track-done : not o ≡ false → {after : List ℕ} → after ≡ loaded h s i answer → Answered h s i answer 0 after
-        track-done t g = answered-done h s i answer (number_is ∙ rw (sym f ∙ not-false o t)) g
+        pub track_done : o ≡ true → {after : List ℕ} → after ≡ loaded h s i answer → Answered h s i answer 0 after
+        track_done t g = answered-done h s i answer (number_is ∙ rw (sym f ∙ t)) g
 
 -- ---- the place of the track
 
@@ -146,8 +148,8 @@ place_inside δ s =
     by_test (Inside (length s)) (header_there s)
     (λ e. by_test (Inside (length s)) (header_fits δ s) (λ f. from-inside (length s) s (8 + word32 s 4)) (λ f. tt)) (λ e. tt)
 
-pub track-inside : (δ : ℕ) (s : List ℕ) {at end : ℕ} → bytes at end ≡ track_place δ s → (at ≤ end) × (end ≤ length s)
-track-inside δ s e = rw (← e) at (place_inside δ s)
+pub track_inside : (δ : ℕ) (s : List ℕ) {at end : ℕ} → bytes at end ≡ track_place δ s → (at ≤ end) × (end ≤ length s)
+track_inside δ s e = rw (← e) at (place_inside δ s)
 
 -- ---- the call
 
@@ -170,9 +172,9 @@ module _ (s : List ℕ) (i : ℕ) (file : List ℕ) where
       (is, kept q (load_number s i file) is (loaded g s i (read_file g.delta file)) s)
 
   -- questions 1 and 2 answered yes
-  module _ {h : Header} (e : Entered s i h) where
-    pub shelf_entered : ShelfAsks s h i
-    shelf_entered = record { header = rw e.same e.header; below = rw e.same e.below }
+  module _ {h : Header} (granted : answer_of words_of_header (Ok h) ≡ entry_asked s i) where
+    e : Entered s i h
+    e = granted_means s i h granted
 
     entered_number : load_number s i file ≡ read_number h (read_file h.delta file)
     entered_number = load_is ∙ rw (e.header, lt-ltb i g.shelves e.below) (ap (λ (k : Header). read_number k (read_file k.delta file)) (sym e.same))

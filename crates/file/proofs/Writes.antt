@@ -1,32 +1,33 @@
 -- A write: its number, count and output by the way that it goes. Assumes nothing.
 use mathlib.Core.Path.{◌≡◌, refl, sym, ap, ◌∙◌}
-use mathlib.Core.Bool.{Bool, true, false, cond, not}
+use mathlib.Core.Bool.{Bool, true, false, cond}
 use mathlib.Core.List.{List, [], ◌∷◌}
-use Prim.Native.Nat.{ℕ, ◌+◌, ◌-◌, ◌≤◌, ◌<◌}
+use Prim.Native.Nat.{ℕ, ◌≤◌, ◌<◌}
 use native.Mathlib.Omega.{arith}
-use borrow.Author.Tests.{lt-ltb, lt-leb, not-true, not-false}
+use borrow.Author.Tests.{lt-ltb, lt-leb}
 use lib.Dec.{leb, ltb}
-use lib.ListN.{length, take, drop, length-append}
+use lib.ListN.{length, length-append}
 use Rattle.words.specs.Splice.{splice}
+use Rattle.model.specs.Limits.{max_delta, min_words}
 use Rattle.model.specs.Questions.{header_ok}
-use Rattle.model.specs.Session.{header_of, words_of_header, shelf, shelf_at}
+use Rattle.model.specs.Session.{header_of, words_of_header, shelf}
 use Rattle.model.specs.Soundness.{sound_shelf}
 use Rattle.model.specs.Takes.{word, notes_in}
 use Rattle.model.specs.declared.Header.{Header}
-use Rattle.model.proofs.Headers.{InRange, in_range}
+use Rattle.model.proofs.Headers.{in_range}
 use Rattle.laws.specs.Accepted.{asked-in_turn}
 use Rattle.midi.specs.Writing.{header_bytes, track_bytes, file_bytes}
-use Rattle.session.proofs.Entries.{Entered, entry_refused}
-use Rattle.session.proofs.Sources.{part_is, part_long}
-use Rattle.std.proofs.Common.{Option, None, Some, Err}
-use Rattle.model.specs.Numbers.{number_of, answer_of}
+use Rattle.session.proofs.Entries.{Entered, granted_means, entry_refused}
+use Rattle.std.specs.Prelude.{Result, Ok, Err}
+use Rattle.model.specs.Numbers.{number_of, answer_number, answer_of}
 use Rattle.model.proofs.Numbers.{kept}
 use Rattle.model.specs.declared.questions.Question.{Question}
 use Rattle.model.specs.declared.questions.Question.TheVariants.{ShelvesSound, FileFits}
 use Rattle.session.specs.Entering.{entry_asked}
 use Rattle.file.specs.Calls.{shelf_file, file_fits, write_questions, write_number, write_count, write_output}
+use Rattle.file.specs.Writing.{file_answer, file_left}
 use Rattle.writer.proofs.Written.{header-length}
-use Rattle.writer.specs.Files.{PartAsks, file_in, length_in, output_of}
+use Rattle.writer.specs.Files.{PartAsks, file_in}
 
 -- ---- the number, the count and the output
 
@@ -57,77 +58,72 @@ module _ (s : List ℕ) (i room : ℕ) where
 pub write_refused : (s : List ℕ) (i : ℕ) (out : List ℕ) (q : Question) → answer_of words_of_header (Err q) ≡ entry_asked s i → Wrote s i out (number_of q) 0 out
 write_refused s i out q e = wrote_refused s i out q (entry_refused s i _ (number_is s i (length out)) q e)
 
--- ---- no file is shorter than its header
+-- ---- a shelf's words
 
-file_long : (h : Header) (ws : List ℕ) → 22 ≤ length (file_in h ws)
-unfolding file_bytes
-file_long h ws =
-    let track = track_bytes h.delta (word ws 0) (notes_in ws) in
-    omega (arith, length-append (header_bytes h.delta (length track)) track, header-length h.delta (length track))
+module _ (h : Header) (ws : List ℕ) where
+  -- no file is shorter than its header
+  file_long : 22 ≤ length (file_in h ws)
+  unfolding file_bytes
+  file_long =
+      let track = track_bytes h.delta (word ws 0) (notes_in ws) in
+      omega (arith, length-append (header_bytes h.delta (length track)) track, header-length h.delta (length track))
+
+  -- one shorter than that holds none
+  pub too_short : (out : List ℕ) → length out < 22 → leb (length (file_in h ws)) (length out) ≡ false
+  too_short out short = lt-leb (length (file_in h ws)) (length out) (omega (arith, file_long))
+
+  pub sound_asks : (len : ℕ) → header_ok h len ≡ true → length ws ≡ h.words
+      → (0 < h.delta) × (h.delta ≤ max_delta) × (h.epsilon ≤ h.delta) × (min_words ≤ h.words) × (length ws ≡ h.words)
+  sound_asks len ok long = let range = in_range ok in (range.some-ticks, range.few_ticks, range.kept-within, range.large, long)
+
+  pub part_asks : (len : ℕ) → header_ok h len ≡ true → length ws ≡ h.words → sound_shelf h ws ≡ true → PartAsks h ws
+  part_asks len ok long sound =
+      let range = in_range ok in
+      record { some-ticks = range.some-ticks; few_ticks = range.few_ticks; small = range.small; whole = long; sound = sound }
 
 -- ---- questions 1 and 2 answered yes
 
-module _ (s : List ℕ) (i : ℕ) (h : Header) (e : Entered s i h) (out : List ℕ) where
+-- what the file's answer counts
+abbrev pub counted : Result ℕ Question → ℕ
+counted (Ok n) = n
+counted (Err q) = 0
+
+module _ (s : List ℕ) (i : ℕ) (h : Header) (granted : answer_of words_of_header (Ok h) ≡ entry_asked s i) (out : List ℕ) where
+  e : Entered s i h
+  e = granted_means s i h granted
+
+  abbrev ws : List ℕ
+  ws = shelf h s i
+
   abbrev file : List ℕ
-  file = file_in h (shelf h s i)
+  file = file_in h ws
 
   file_same : file ≡ shelf_file s i
   unfolding shelf_file
   file_same = ap (λ (g : Header). file_in g (shelf g s i)) e.same
 
-  entered_number : write_number s i (length out) ≡ cond (sound_shelf h (shelf h s i)) (cond (leb (length file) (length out)) 0 15) 4
+  entered_number : write_number s i (length out) ≡ cond (sound_shelf h ws) (cond (leb (length file) (length out)) 0 15) 4
   unfolding file_fits
   entered_number =
       number_is s i (length out)
       ∙ rw (e.header, lt-ltb i (header_of s).shelves e.below)
       (ap (λ (g : Header). cond (sound_shelf g (shelf g s i)) (cond (leb (length (shelf_file s i)) (length out)) 0 15) 4) (sym e.same)
-      ∙ ap (λ (f : List ℕ). cond (sound_shelf h (shelf h s i)) (cond (leb (length f) (length out)) 0 15) 4) (sym file_same))
+      ∙ ap (λ (f : List ℕ). cond (sound_shelf h ws) (cond (leb (length f) (length out)) 0 15) 4) (sym file_same))
 
-  pub write_unsound : {o : Bool} → o ≡ sound_shelf h (shelf h s i) → not o ≡ true → Wrote s i out 4 0 out
-  write_unsound {o} f t = wrote_refused s i out ShelvesSound (sym (entered_number ∙ rw (sym f ∙ not-true o t)))
-
-  -- the output is shorter than the header of a file
-  pub write_short : {o : Bool} → o ≡ sound_shelf h (shelf h s i) → o ≡ true → length out < 22 → Wrote s i out 15 0 out
-  write_short f t short =
-      wrote_refused s i out FileFits
-      (sym (entered_number ∙ rw (sym f ∙ t, lt-leb (length file) (length out) (omega (arith, short, file_long h (shelf h s i))))))
-
-  module _ {o : Bool} (f : o ≡ sound_shelf h (shelf h s i)) (t : not o ≡ false) {r : Option ℕ} {after : List ℕ}
-      (counts : r ≡ length_in file out) (leaves : after ≡ output_of file out) where
-    sound-number : write_number s i (length out) ≡ cond (leb (length file) (length out)) 0 15
-    sound-number = entered_number ∙ rw (sym f ∙ not-false o t)
-
-    pub write_full : r ≡ None → Wrote s i out 15 0 after
-    write_full z = go (leb (length file) (length out)) refl
-      where
-        go : (b : Bool) → leb (length file) (length out) ≡ b → Wrote s i out 15 0 after
-        go true x = let l : r ≡ Some (length file) = counts ∙ rw x in absurd (cc)
-        go false x = let l : after ≡ out = leaves ∙ rw x in rw l (wrote_refused s i out FileFits (sym (sound-number ∙ rw x)))
-
-    pub write_done : (n : ℕ) → r ≡ Some n → Wrote s i out 0 n after
-    write_done n d = go (leb (length file) (length out)) refl
-      where
-        go : (b : Bool) → leb (length file) (length out) ≡ b → Wrote s i out 0 n after
-        go true x = let l : r ≡ Some (length file) = counts ∙ rw x in let m : n ≡ length file = cc in wrote_done s i out (sym (sound-number ∙ rw x)) (m ∙ ap length file_same) (leaves ∙ rw x (ap (splice out 0) file_same))
-        go false x = let l : r ≡ None = counts ∙ rw x in absurd (cc)
-
--- ---- the part of the session that the shelf is
-
-pub entered_range : {s : List ℕ} {i : ℕ} {h : Header} → Entered s i h → InRange h (length s)
-entered_range {s} e = in_range (ap (λ (g : Header). header_ok g (length s)) e.same ∙ e.header)
-
-pub entered_below : {s : List ℕ} {i : ℕ} {h : Header} → Entered s i h → i < h.shelves
-entered_below e = omega (arith, e.below, ap (λ (g : Header). g.shelves) e.same)
-
-module _ (h : Header) (s : List ℕ) (i : ℕ) (range : InRange h (length s)) (below-K : i < h.shelves) {at : ℕ} (place : at ≡ shelf_at h i) where
-  pub part_asks : {o : Bool} → o ≡ sound_shelf h (take (at + h.words - at) (drop at s)) → not o ≡ false → PartAsks h (take (at + h.words - at) (drop at s))
-  part_asks {o} e t =
-      record { some-ticks = range.some-ticks; few_ticks = range.few_ticks; small = range.small; whole = part_long h s i range below-K place; sound = sym e ∙ not-false o t }
-
-  pub part_sound : {o : Bool} → o ≡ sound_shelf h (take (at + h.words - at) (drop at s)) → not o ≡ false → PartAsks h (shelf h s i)
-  part_sound e t = rw (part_is h s i range below-K place) at (part_asks e t)
-
-  pub part_wrote : (out : List ℕ) {r : Option ℕ} {after : List ℕ}
-      → (r ≡ length_in (file_in h (take (at + h.words - at) (drop at s))) out) × (after ≡ output_of (file_in h (take (at + h.words - at) (drop at s))) out)
-      → (r ≡ length_in (file_in h (shelf h s i)) out) × (after ≡ output_of (file_in h (shelf h s i)) out)
-  part_wrote out w = rw (part_is h s i range below-K place) at w
+  -- the file's answer decides
+  pub write_by_file : {r : Result ℕ Question} {after : List ℕ} → r ≡ file_answer h ws out → after ≡ file_left h ws out → Wrote s i out (answer_number r) (counted r) after
+  write_by_file {r} {after} answer leaves = go (sound_shelf h ws) (leb (length file) (length out)) refl refl
+    where
+      go : (a b : Bool) → sound_shelf h ws ≡ a → leb (length file) (length out) ≡ b → Wrote s i out (answer_number r) (counted r) after
+      go true true x y =
+          let is : r ≡ Ok (length file) = answer ∙ rw (x, y) in
+          let left : after ≡ splice out 0 file = leaves ∙ rw (x, y) in
+          rw is (wrote_done s i out (sym (entered_number ∙ rw (x, y))) (ap length file_same) (left ∙ ap (splice out 0) file_same))
+      go true false x y =
+          let is : r ≡ Err FileFits = answer ∙ rw (x, y) in
+          let left : after ≡ out = leaves ∙ rw (x, y) in
+          rw (is, left) (wrote_refused s i out FileFits (sym (entered_number ∙ rw (x, y))))
+      go false b x y =
+          let is : r ≡ Err ShelvesSound = answer ∙ rw x in
+          let left : after ≡ out = leaves ∙ rw x in
+          rw (is, left) (wrote_refused s i out ShelvesSound (sym (entered_number ∙ rw x)))

@@ -33,6 +33,7 @@ fn put_recording(
 }
 
 // Questions 12 to 14 and 8 of a track; if all are answered yes, its recording is laid.
+#[tactic(auto, using(crate::proofs::Loads::times, crate::proofs::Loads::few_words, crate::proofs::Loads::track_room, crate::proofs::Loads::track_asks))]
 fn load_track(s: &mut [u32], h: Header, shelf: u32, track: &[u8]) -> Result<(), Question>
     requires { ShelfAsks s.old h shelf }
     ensures number { answer_number result ≡ read_number h (read_track h.delta track.now) }
@@ -50,6 +51,7 @@ fn load_track(s: &mut [u32], h: Header, shelf: u32, track: &[u8]) -> Result<(), 
 }
 
 // Loads a file in a shelf: its notes are laid. Refuses with the first question that is answered no.
+#[tactic(auto, using(crate::proofs::Loads::track_inside))]
 pub fn take_load(session: &mut [u32], shelf: u32, file: &[u8]) -> Result<(), Question>
     ensures number { answer_number result ≡ load_number session.old shelf file.now }
     ensures words { session.new ≡ load_after session.old shelf file.now }

@@ -1,15 +1,38 @@
 // Write: a shelf's file goes to a lent output.
-ghost use Rattle.std.specs.Prelude.{◌≡◌, length};
+ghost use Rattle.std.specs.Prelude.{◌≡◌, ◌<◌, length};
+ghost use Rattle.model.specs.Session.{shelf};
 ghost use Rattle.model.specs.Numbers.{answer_number};
 ghost use Rattle.file.specs.Calls.{write_number, write_count, write_output};
+ghost use Rattle.file.specs.Writing.{file_answer, file_left};
 
 use model::questions::Question;
+use session::view::SessionView;
 use session::{header, sound};
 use writer::files;
 
-// Writes a shelf's file to an output, and counts the file's bytes. Refuses with the first question that is answered no, and counts 0 then.
+// Questions 4 and 15: the file of a shelf, if the shelf is sound and the file fits the output. Returns its length.
 // No file is shorter than its header, 22 bytes. That question 4 stands in two places also keeps the compiler from putting it inside this
 // function, where a write takes a twentieth longer.
+#[tactic(auto, using(crate::proofs::Writes::too_short, crate::proofs::Writes::sound_asks, crate::proofs::Writes::part_asks))]
+fn put_file(s: SessionView, take: u32, output: &mut [u8]) -> Result<usize, Question>
+    requires { take < s.header.shelves }
+    ensures answer { result ≡ file_answer s.entry.header (shelf s.entry.header s.entry.words.now take) output.old }
+    ensures output { output.new ≡ file_left s.entry.header (shelf s.entry.header s.entry.words.now take) output.old }
+{
+    let part = s.shelf(take);
+    if output.len() < 22 {
+        if sound::sound(s.header, part) {
+            return Err(Question::FileFits);
+        }
+        return Err(Question::ShelvesSound);
+    }
+    if !sound::sound(s.header, part) {
+        return Err(Question::ShelvesSound);
+    }
+    files::put_shelf_file(s.header, part, output).ok_or(Question::FileFits)
+}
+
+// Writes a shelf's file to an output, and counts the file's bytes. Refuses with the first question that is answered no, and counts 0 then.
 pub fn take_write(
     session: &[u32],
     shelf: u32,
@@ -22,22 +45,10 @@ pub fn take_write(
 {
     *count = 0;
     let header = header::enter(session, shelf)?;
-    let at = header::shelf_at(header, shelf);
-    let end = at + (header.words as usize);
-    if output.len() < 22 {
-        if sound::sound(header, &session[at..end]) {
-            return Err(Question::FileFits);
-        }
-        return Err(Question::ShelvesSound);
-    }
-    if !sound::sound(header, &session[at..end]) {
-        return Err(Question::ShelvesSound);
-    }
-    match files::put_shelf_file(header, &session[at..end], output) {
-        Some(size) => {
-            *count = size as u64;
-            Ok(())
-        }
-        None => Err(Question::FileFits),
-    }
+    let read = SessionView {
+        words: session,
+        header,
+    };
+    *count = put_file(read, shelf, output)? as u64;
+    Ok(())
 }
