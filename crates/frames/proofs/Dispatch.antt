@@ -119,8 +119,11 @@ module _ {s : List ℕ} {f : Frame} {file : List ℕ} {n : ℕ} (w : Wrote s f f
 -- an answer behind those that are collected
 pub collected : {s bytes : List ℕ} {count : ℕ} {f : Frame} {s' bytes' : List ℕ} {to : ℕ} → count + 16387 ≤ length bytes → Answers s bytes count f s' bytes' to
     → Collects s (take count bytes) f s' (take to bytes')
-collected {s} {bytes} {count} {f} room a =
+collected {s} {bytes} {count} {f} {bytes' = bytes'} {to} room a =
+    let made : take to bytes' ≡ take count bytes ++ answer_of s f =
+    rw (a.put.output, a.put.end) (take-splice bytes count (answer_of s f) (omega (arith, a.put.end, a.put.few))) in
     record {
       session = a.session;
-      output = rw (a.put.output, a.put.end) (take-splice bytes count (answer_of s f) (omega (arith, a.put.end, a.put.few)));
+      output = made;
+      few = omega (arith, ap length made, length-append (take count bytes) (answer_of s f), a.put.end, a.put.few);
     }

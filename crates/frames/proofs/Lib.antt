@@ -3,5 +3,6 @@ pub mod Decoding
 pub mod Putting
 pub mod Words
 pub mod Carried
+pub mod Numbers
 pub mod Dispatch
 pub mod Inputs

@@ -27,3 +27,4 @@ pub record Answers (s out : List ℕ) (at : ℕ) (f : Frame) (s' out' : List ℕ
 pub record Collects (s out : List ℕ) (f : Frame) (s' out' : List ℕ) : Type 0 where
   pub session : s' ≡ session_after s f
   pub output : out' ≡ out ++ answer_of s f
+  pub few : length out' ≤ length out + max_answer

@@ -1,5 +1,5 @@
 -- Uppercase hexadecimal: what a line of digits says, and the digits of bytes. Assumes nothing.
-use Rattle.std.specs.Prelude.{◌&&◌, cond, List, [], ◌∷◌, ℕ, ◌+◌, ◌-◌, ◌*◌, ◌/◌, ◌%◌, leb, ltb, Option, Some, None}
+use Rattle.std.specs.Prelude.{Bool, ◌&&◌, ◌||◌, cond, List, [], ◌∷◌, ℕ, ◌+◌, ◌-◌, ◌*◌, ◌/◌, ◌%◌, leb, ltb, Option, Some, None}
 use Rattle.model.specs.Lists.{gather}
 
 -- ---- digits read
@@ -7,6 +7,10 @@ use Rattle.model.specs.Lists.{gather}
 -- The value of a digit, 0 to 9 or A to F; none for another character.
 abbrev pub digit_value : ℕ → Option ℕ
 digit_value c = cond (leb 48 c && leb c 57) (Some (c - 48)) (cond (leb 65 c && leb c 70) (Some (c - 55)) None)
+
+-- Is a character a digit?
+abbrev pub is_digit : ℕ → Bool
+is_digit c = (leb 48 c && leb c 57) || (leb 65 c && leb c 70)
 
 -- The byte of two digits, and the bytes of the digits behind them; none where either says none.
 unfoldable pub byte_before : Option ℕ → Option ℕ → Option (List ℕ) → Option (List ℕ)

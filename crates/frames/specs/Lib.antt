@@ -1,6 +1,7 @@
 -- What a line of input stands for, and what is answered.
 pub mod Digits
 pub mod Lines
+pub mod Decoded
 pub mod Answers
 pub mod Calling
 pub mod Answering

@@ -1,8 +1,9 @@
 -- Frames: what a line of input, without its line feed, stands for. Assumes nothing.
-use Rattle.std.specs.Prelude.{◌&&◌, cond, List, [], ◌∷◌, ℕ, zero, suc, ◌-◌, ◌*◌, ◌/◌, ◌%◌, leb, eqb, length, drop, Option, Some, None}
+use Rattle.std.specs.Prelude.{Bool, ◌&&◌, cond, List, [], ◌∷◌, ℕ, zero, suc, ◌-◌, ◌*◌, ◌/◌, ◌%◌, leb, eqb, length, drop, Option, Some, None}
+use Rattle.model.specs.Lists.{every}
 use Rattle.model.specs.declared.Header.{Header}
 use Rattle.midi.specs.Numbers.{word32}
-use Rattle.frames.specs.Digits.{bytes_of}
+use Rattle.frames.specs.Digits.{is_digit, bytes_of}
 
 -- A line is malformed, or a call with its arguments.
 pub data Frame : Type 0 where
@@ -19,6 +20,10 @@ pub data Frame : Type 0 where
 -- No more digits are allowed.
 abbrev pub max_digits : ℕ
 max_digits = 4000
+
+-- At most 4,000 characters, no odd digit, no other character.
+unfoldable pub digits_ok : List ℕ → Bool
+digits_ok line = leb (length line) max_digits && eqb (length line % 2) 0 && every is_digit line
 
 -- Its bytes; none of a line of more characters, or one with an odd digit or another character.
 unfoldable pub decoded : List ℕ → Option (List ℕ)

@@ -13,7 +13,7 @@ block_bytes = 65536
 -- The collected answers, n bytes, were written, and are no longer collected.
 pub record Flushed {N : ℕ} (p : Progress N) (n : ℕ) (q : Progress N) : Type 0 where
   pub count : n ≡ length p.answers
-  pub few : n ≤ 65536
+  pub few : n ≤ N
   pub emptied : q ≡ record p { answers = [] }
 
 -- All these bytes were taken. The answers that were collected before and those to the bytes follow each other; as many as `sent` says,

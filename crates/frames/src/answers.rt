@@ -64,7 +64,7 @@ fn answer_call(call: u8, bytes: &[u8], session: &mut Session, out: &mut [u8], at
     }
 }
 
-// Answers a frame's bytes; none are malformed.
+// Answers a frame's bytes; a frame of no bytes is malformed.
 fn answer_frame(frame: &[u8], session: &mut Session, out: &mut [u8], at: usize) -> usize
     requires room { at + max_answer ≤ length out.old }
     requires few { length frame.now ≤ 2000 }

@@ -3,7 +3,8 @@ ghost use Rattle.std.specs.Prelude.{◌≡◌, ◌+◌, ◌≤◌, ◌<◌, ◌�
 
 use std::marker::Model;
 
-// At most N items, seen as their list. The crate's functions on bytes and words write into the table itself, which is why it is theirs too.
+// At most N items, seen as their list: an array with a length beside it, since the program has no heap for a `Vec`. The crate's functions on
+// bytes and words write into the array itself, which is why it is theirs too.
 #[derive(Drop)]
 pub struct Buffer<T: Copy + Default, const N: usize> {
     pub(crate) items: [T; N],

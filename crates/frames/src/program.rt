@@ -54,9 +54,11 @@ impl Progress<OUT_BYTES> {
         ensures { ReadWhole self.old block.now result self.new }
     {
         let mut sent = 0;
-        for c in block {
+        let mut left = block;
+        while !left.is_empty() {
             sent += self.make_room(to);
-            self.next(*c);
+            let taken = self.read_on(left);
+            left = &left[taken..];
         }
         sent
     }
@@ -66,6 +68,7 @@ impl Progress<OUT_BYTES> {
         ensures { ReadSome self.old self.new }
     {
         let mut block = [0; BLOCK_BYTES];
+        // No endless loop: a function here must end. A read of so many blocks is never reached.
         for _ in 0..u64::MAX {
             let n = from.read(&mut block).unwrap_or(0);
             if n == 0 {
@@ -75,7 +78,8 @@ impl Progress<OUT_BYTES> {
         }
     }
 
-    // Answers a last line without a line feed, if it has a character.
+    // Answers a last line without a line feed, if it has a character. Room for its answer is asked here, and in three contracts of `input` and
+    // `answers`: no type carries it, since answers use it up and a write makes it again, while what a type says holds all the time.
     fn last_line(&mut self)
         requires { length self.old.answers + max_answer ≤ out_bytes }
         ensures { self.new.answers ≡ self.old.answers ++ written_last (reading_of self.old) }

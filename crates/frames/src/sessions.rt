@@ -10,7 +10,7 @@ use beat::opening;
 use model::questions::Question;
 
 // The words of the largest session.
-const MAX_SESSION: usize = 8192;
+pub const MAX_SESSION: usize = 8192;
 
 // An open session, seen as its words; none before an accepted open.
 pub type Session = Buffer<u32, MAX_SESSION>;
