@@ -7,7 +7,7 @@ ghost use Rattle.model.specs.Pieces.{cell_at, cells_of_note};
 ghost use Rattle.model.specs.Takes.{cell_words};
 ghost use Rattle.cuts.specs.Making.{Made, touched_cells, crossed_cells, cells_behind, LinesAsks, NoteAsks, CellsAsks, cells_at};
 
-use model::Note;
+use model::{Cell, Note};
 use session::beats::Divisor;
 use session::notes;
 
@@ -17,11 +17,15 @@ fn put_cell(s: &mut [u32], at: usize, n: Note, beat: u32, side: u32, line: u32)
     requires { (at + 6 ≤ length s.old) × (n.start ≤ line) × (line ≤ n.end) }
     ensures { s.new ≡ splice s.old at (cell_words (cell_at n beat side line)) }
 {
-    words::put(
-        s,
-        at,
-        [n.lane, beat, side, line - n.start, n.end - line, n.velocity],
-    );
+    let c = Cell {
+        lane: n.lane,
+        beat,
+        side,
+        before: line - n.start,
+        after: n.end - line,
+        velocity: n.velocity,
+    };
+    words::put(s, at, c.into());
 }
 
 // The cell on the opening line of a note's first beat, if the note starts there. Returns the place behind it.

@@ -29,6 +29,7 @@ fn put_fresh(s: &mut [u32], h: Header)
     requires { header_ok h (length s.old) ≡ true }
     ensures { s.new ≡ fresh_words h }
 {
+    // A conversion of a header to its words is no plainer: they are put here alone.
     words::put(s, 0, [h.delta, h.epsilon, h.shelves, h.words]);
     let end = s.len();
     words::zero_fill(s, Header::WORDS, end);

@@ -13,7 +13,7 @@ use Rattle.std.proofs.Math.Option.{none, some}
 use Rattle.words.specs.Splice.{splice}
 use Rattle.model.specs.Lists.{cons_if}
 use Rattle.model.specs.Binding.{stands_alone}
-use Rattle.model.specs.Takes.{note_words}
+use Rattle.model.specs.Takes.{note_words, cell_of}
 use Rattle.model.specs.declared.Header.{Header}
 use Rattle.model.specs.declared.Note.{Note}
 use Rattle.model.specs.declared.Cell.{Cell}
@@ -101,10 +101,14 @@ module _ (h : Header) (v : Half) (n : Note) (s : List ℕ) (end left : ℕ) {all
   unfolding across_parts crossed_by
   across_none to e = noted_none s to (rw (← found, first_none own e))
 
-  module _ {words : List ℕ} (some : Some words ≡ slice_get own 0) {c : Cell} (is : c ≡ cell_at words 0) {p : Bool} (e : p ≡ stands_alone h c) where
+  module _ {words : List ℕ} (some : Some words ≡ slice_get own 0) {c : Cell} (is : c ≡ cell_of words) {p : Bool} (e : p ≡ stands_alone h c) where
+    cell_is : c ≡ cell_at words 0
+    unfolding cell_at
+    cell_is = is
+
     by_cell : parts ≡ cons_if p (crossed_note v n c.velocity) []
     unfolding across_parts crossed_by
-    by_cell = rw (← found, first_some own some, ← is, e)
+    by_cell = rw (← found, first_some own some, ← cell_is, e)
 
     pub across_hidden : (to : ℕ) → not p ≡ true → Noted s to parts s to
     across_hidden to t = noted_none s to (by_cell ∙ rw (not-true p t))

@@ -113,14 +113,14 @@ pub fn contents_of(s: SessionView, take: u32) -> Contents
 // ---- notes
 
 // The cells from the closing cell of the beat in front on: behind its opening cell, if that stands there.
-#[tactic(auto, unfolding(laws::specs::Cutting::first_cell, laws::specs::Cutting::closing_cell))]
+#[tactic(auto, unfolding(laws::specs::Cutting::first_cell, laws::specs::Cutting::closing_cell, session::specs::Reading::cell_at))]
 fn closing_cells(cells: &[CellWords]) -> &[CellWords]
     ensures { first_cell (cells_of result.now) ≡ closing_cell (cells_of cells.now) }
 {
     let Some((first, behind)) = cells.split_first() else {
         return cells;
     };
-    if notes::cell_at(first, 0).side == 0 {
+    if Cell::from(*first).side == 0 {
         behind
     } else {
         cells
@@ -165,12 +165,12 @@ fn put_across(s: &mut [u32], to: usize, h: Header, half: Half, n: Note, cells: L
     let Some(words) = line_cells(half, cells.arrays(s)).first() else {
         return to;
     };
-    let c = notes::cell_at(words, 0);
+    let c = Cell::from(*words);
     if !rules::stands_alone(h, c) {
         return to;
     }
     let part = crossed(half, n, c.velocity);
-    words::put(s, to, [part.lane, part.start, part.end, part.velocity]);
+    words::put(s, to, part.into());
     to + 4
 }
 
@@ -238,27 +238,25 @@ fn put_parts(
 {
     let line = before.line;
     if n.end <= line {
-        words::put(s, at.to.left, [n.lane, n.start, n.end, n.velocity]);
-        return Cursors {
-            to: Ends {
-                left: at.to.left + 4,
-                right: at.to.right,
-            },
-            closings: at.closings,
-            openings: at.openings,
+        words::put(s, at.to.left, n.into());
+        let to = Ends {
+            left: at.to.left + 4,
+            ..at.to
         };
+        return Cursors { to, ..at };
     }
     if line <= n.start {
-        let start = n.start - line;
-        words::put(s, at.to.right, [n.lane, start, n.end - line, n.velocity]);
-        return Cursors {
-            to: Ends {
-                left: at.to.left,
-                right: at.to.right + 4,
-            },
-            closings: at.closings,
-            openings: at.openings,
+        let part = Note {
+            start: n.start - line,
+            end: n.end - line,
+            ..n
         };
+        words::put(s, at.to.right, part.into());
+        let to = Ends {
+            right: at.to.right + 4,
+            ..at.to
+        };
+        return Cursors { to, ..at };
     }
     put_crossed(s, h, before, behind, n, end, at)
 }
@@ -302,7 +300,7 @@ fn cell_place(beat: u32, own: u32, at: Ends) -> CellPlace
             beat: own,
             behind: Ends {
                 left: at.left + 6,
-                right: at.right,
+                ..at
             },
         };
     }
@@ -310,8 +308,8 @@ fn cell_place(beat: u32, own: u32, at: Ends) -> CellPlace
         to: at.right,
         beat: own - beat,
         behind: Ends {
-            left: at.left,
             right: at.right + 6,
+            ..at
         },
     }
 }
@@ -322,11 +320,11 @@ fn put_cell(s: &mut [u32], beat: u32, c: Cell, at: Ends) -> Ends
     ensures { BothPut s.old at (gather cell_words (left_cell beat c)) (gather cell_words (right_cell beat c)) s.new result }
 {
     let place = cell_place(beat, c.beat, at);
-    words::put(
-        s,
-        place.to,
-        [c.lane, place.beat, c.side, c.before, c.after, c.velocity],
-    );
+    let put = Cell {
+        beat: place.beat,
+        ..c
+    };
+    words::put(s, place.to, put.into());
     place.behind
 }
 

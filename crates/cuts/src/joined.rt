@@ -27,18 +27,11 @@ fn put_lower(s: &mut [u32], to: usize, lane: u32, beats: u32, cells: LastCells) 
         if lane <= c.lane {
             return cells.keep(rest);
         }
-        words::put(
-            s,
-            at,
-            [
-                c.lane,
-                beats + c.beat,
-                c.side,
-                c.before,
-                c.after,
-                c.velocity,
-            ],
-        );
+        let later = Cell {
+            beat: beats + c.beat,
+            ..c
+        };
+        words::put(s, at, later.into());
         at += 6;
     }
     cells.keep(0)
@@ -52,11 +45,7 @@ fn put_before(s: &mut [u32], to: usize, c: Cell, beats: u32, cells: LastCells) -
 {
     let rest = put_lower(s, to, c.lane, beats, cells);
     let at = to + 6 * (cells.left - rest.left);
-    words::put(
-        s,
-        at,
-        [c.lane, c.beat, c.side, c.before, c.after, c.velocity],
-    );
+    words::put(s, at, c.into());
     rest
 }
 

@@ -71,8 +71,7 @@ fn put_seam(s: &mut [u32], to: usize, count: usize, seam: Option<Seam>) -> usize
         return to + 4 * count;
     };
     let at = to + 4 * kept_notes(over, count);
-    let n = over.note;
-    words::put(s, at, [n.lane, n.start, n.end, n.velocity]);
+    words::put(s, at, over.note.into());
     at + 4
 }
 

@@ -23,7 +23,12 @@ pub fn put_note_run(s: &mut [u32], to: usize, lane: u32, ticks: u32, notes: Last
         if n.lane != lane {
             return notes.keep(rest);
         }
-        words::put(s, at, [n.lane, n.start + ticks, n.end + ticks, n.velocity]);
+        let later = Note {
+            start: n.start + ticks,
+            end: n.end + ticks,
+            ..n
+        };
+        words::put(s, at, later.into());
         at += 4;
     }
     notes.keep(0)

@@ -39,12 +39,23 @@ notes_of h t = merge t.inner (line_notes h t.cells)
 
 -- ---- words
 
+-- The word at place i.
+abbrev pub word : List ℕ → ℕ → ℕ
+word ws i = get_or ws i 0
+
 -- A note's four words, and a cell's six.
 abbrev pub note_words : Note → List ℕ
 note_words n = n.lane ∷ n.start ∷ n.end ∷ n.velocity ∷ []
 
 abbrev pub cell_words : Cell → List ℕ
 cell_words c = c.lane ∷ c.beat ∷ c.side ∷ c.before ∷ c.after ∷ c.velocity ∷ []
+
+-- The note that four words say, and the cell that six say.
+abbrev pub note_of : List ℕ → Note
+note_of ws = record { lane = word ws 0; start = word ws 1; end = word ws 2; velocity = word ws 3 }
+
+abbrev pub cell_of : List ℕ → Cell
+cell_of ws = record { lane = word ws 0; beat = word ws 1; side = word ws 2; before = word ws 3; after = word ws 4; velocity = word ws 5 }
 
 -- The words that N notes and C cells take with n, N and C in front of them.
 abbrev pub words_used : ℕ → ℕ → ℕ
@@ -59,10 +70,6 @@ shelf_words W beats ns cs =
 unfoldable pub words_of : Header → Take → List ℕ
 unfolding notes_of shelf_words
 words_of h t = shelf_words h.words t.beats (notes_of h t) t.cells
-
--- The word at place i.
-abbrev pub word : List ℕ → ℕ → ℕ
-word ws i = get_or ws i 0
 
 -- N notes of four words, and C cells of six.
 unfoldable pub read_notes : ℕ → List ℕ → List Note

@@ -6,6 +6,7 @@ ghost use Rattle.std.specs.Prelude.{◌≡◌, ◌&&◌, leb};
 ghost use Rattle.model.specs.Limits.{max_beats, lane_count, max_shelves, max_delta, min_words, max_words};
 ghost use Rattle.model.specs.Session.{header_words, words_of_header};
 ghost use Rattle.model.specs.Numbers.{answer_of};
+ghost use Rattle.model.specs.Takes.{note_words, cell_words, note_of, cell_of};
 ghost use Rattle.model.specs.Questions.{header_ok};
 ghost use Rattle.model.specs.Answers.{header_asked};
 
@@ -110,6 +111,29 @@ pub struct Note {
     pub velocity: u32,
 }
 
+// A note's words, and the note that words say.
+impl From<Note> for [u32; 4] {
+    ghost from_gives = { λ n words. words ≡ note_words n };
+
+    fn from(n: Note) -> [u32; 4] {
+        [n.lane, n.start, n.end, n.velocity]
+    }
+}
+
+impl From<[u32; 4]> for Note {
+    ghost from_gives = { λ words n. n ≡ note_of words };
+
+    fn from(words: [u32; 4]) -> Note {
+        let [lane, start, end, velocity] = words;
+        Note {
+            lane,
+            start,
+            end,
+            velocity,
+        }
+    }
+}
+
 // A cell: what a piece that touches a line of its beat remembers there. Side 0 is the beat's opening line, 1 its closing line;
 // before and after are the ticks of the whole note on either side of the line.
 #[derive(Clone, Copy)]
@@ -120,4 +144,29 @@ pub struct Cell {
     pub before: u32,
     pub after: u32,
     pub velocity: u32,
+}
+
+// A cell's words, and the cell that words say.
+impl From<Cell> for [u32; 6] {
+    ghost from_gives = { λ c words. words ≡ cell_words c };
+
+    fn from(c: Cell) -> [u32; 6] {
+        [c.lane, c.beat, c.side, c.before, c.after, c.velocity]
+    }
+}
+
+impl From<[u32; 6]> for Cell {
+    ghost from_gives = { λ words c. c ≡ cell_of words };
+
+    fn from(words: [u32; 6]) -> Cell {
+        let [lane, beat, side, before, after, velocity] = words;
+        Cell {
+            lane,
+            beat,
+            side,
+            before,
+            after,
+            velocity,
+        }
+    }
 }

@@ -14,7 +14,7 @@ use Rattle.std.specs.Simd.{first_chunks}
 use Rattle.model.specs.Lists.{gather}
 use Rattle.model.specs.Limits.{max_beats, max_delta, lane_count}
 use Rattle.model.specs.Pieces.{first_beat, last_beat, cells_of_note}
-use Rattle.model.specs.Takes.{read_notes}
+use Rattle.model.specs.Takes.{note_of, read_notes}
 use Rattle.model.specs.Soundness.{note_ok, follows, first_follows, notes_ok}
 use Rattle.model.specs.Machine.{listed}
 use Rattle.model.specs.Questions.{list_ok}
@@ -22,7 +22,6 @@ use Rattle.model.specs.declared.Header.{Header}
 use Rattle.model.specs.declared.Note.{Note}
 use Rattle.laws.specs.Notes.{note_same, Fair, fair, Follow, Follow.above, Follow.later, follow}
 use Rattle.session.specs.Checking.{before_all}
-use Rattle.session.specs.Reading.{note_at}
 use Rattle.session.specs.Sliced.{notes_of}
 use Rattle.std.specs.Prelude.{Ok, Err}
 use Rattle.model.specs.Numbers.{answer_of}
@@ -105,7 +104,7 @@ module _ (δ beats : ℕ) (ws : List (List ℕ)) where
         let none : rest i ≡ [] = at_drop_all notes_of ws i done in
         (rw none at c.ok, omega (arith, rw none at c.count))
 
-    module _ (more : i < length ws) (d : List ℕ) {n : Note} (is : n ≡ note_at (get_or ws i d) 0) where
+    module _ (more : i < length ws) (d : List ℕ) {n : Note} (is : n ≡ note_of (get_or ws i d)) where
       cons : rest i ≡ n ∷ rest (i + 1)
       cons = note_behind ws i more d is
 

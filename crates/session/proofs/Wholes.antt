@@ -7,7 +7,7 @@ use lib.ListN.{length, take, drop, get_or}
 use Rattle.std.proofs.lemmas.List.{length-map, get_or-take, take-take, drop-take, at_drop_more}
 use Rattle.std.specs.Simd.{first_chunks}
 use Rattle.laws.specs.Sweep.{skip}
-use Rattle.model.specs.Takes.{read_notes, read_cells}
+use Rattle.model.specs.Takes.{note_of, cell_of, read_notes, read_cells}
 use Rattle.model.specs.declared.Note.{Note}
 use Rattle.model.specs.declared.Cell.{Cell}
 use Rattle.words.specs.Parts.{length_part}
@@ -74,10 +74,12 @@ module _ (ws : List ℕ) (at k m : ℕ) where
 -- ---- what is left from array i on
 
 module _ (ws : List (List ℕ)) (i : ℕ) (more : i < length ws) (d : List ℕ) where
-  pub note_behind : {n : Note} → n ≡ note_at (get_or ws i d) 0 → notes_of (drop i ws) ≡ n ∷ notes_of (drop (i + 1) ws)
+  pub note_behind : {n : Note} → n ≡ note_of (get_or ws i d) → notes_of (drop i ws) ≡ n ∷ notes_of (drop (i + 1) ws)
+  unfolding note_at
   note_behind is = at_drop_more notes_of ws i d more ∙ ap (λ (m : Note). m ∷ notes_of (drop (i + 1) ws)) (sym is)
 
-  pub cell_behind : {c : Cell} → c ≡ cell_at (get_or ws i d) 0 → cells_of (drop i ws) ≡ c ∷ cells_of (drop (i + 1) ws)
+  pub cell_behind : {c : Cell} → c ≡ cell_of (get_or ws i d) → cells_of (drop i ws) ≡ c ∷ cells_of (drop (i + 1) ws)
+  unfolding cell_at
   cell_behind is = at_drop_more cells_of ws i d more ∙ ap (λ (c : Cell). c ∷ cells_of (drop (i + 1) ws)) (sym is)
 
 -- ---- a search among the last cells up to a place

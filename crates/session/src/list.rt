@@ -23,7 +23,7 @@ pub fn check_list(h: Header, beats: u32, list: &[u32]) -> Result<u64, Question>
     let mut last = Note::default();
     let mut cells: u64 = 0;
     for words in notes {
-        let note = notes::note_at(words, 0);
+        let note = Note::from(*words);
         if !notes::note_ok(h.delta, beats, note) {
             return Err(Question::ListInOrder);
         }

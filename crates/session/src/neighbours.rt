@@ -127,7 +127,7 @@ pub fn cells_ok(delta: u32, beats: u32, cells: &[CellWords]) -> bool
     }
     let mut last = first;
     for words in behind {
-        let c = notes::cell_at(words, 0);
+        let c = Cell::from(*words);
         if !next_ok(delta, beats, last, c) {
             return false;
         }

@@ -6,7 +6,6 @@ ghost use Rattle.session.specs.Passing.{fewer};
 ghost use Rattle.session.specs.Running.{from_first};
 ghost use Rattle.session.specs.Sliced.{cells_of, first_cell};
 
-use crate::notes;
 use model::Cell;
 
 // The words of a note.
@@ -16,11 +15,12 @@ pub type NoteWords = [u32; 4];
 pub type CellWords = [u32; 6];
 
 // The first cell and those behind it; none if there is none.
+#[tactic(auto, unfolding(crate::specs::Reading::cell_at))]
 pub(crate) fn first_cell(cells: &[CellWords]) -> Option<(Cell, &[CellWords])>
     ensures { cells_of cells.now ≡ first_cell result }
 {
     let (words, behind) = cells.split_first()?;
-    Some((notes::cell_at(words, 0), behind))
+    Some((Cell::from(*words), behind))
 }
 
 // The cells from the first one on at which the test holds, or none. The test is given a cell and those behind it.

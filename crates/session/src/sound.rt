@@ -84,7 +84,7 @@ pub fn notes_ok(h: Header, beats: u32, notes: &[NoteWords], cells: &[CellWords])
         line: cells,
     };
     for words in notes {
-        let n = notes::note_at(words, 0);
+        let n = Note::from(*words);
         if !in_order(h.delta, beats, last, n) {
             return false;
         }

@@ -10,4 +10,4 @@ pub put-requires : goal.put-requires
 put-requires c = (omega arith, behind-lower c.requires c.put_lower-rest.ensures.put)
 
 pub returns-clause-put : goal.returns-clause-put
-returns-clause-put c = before-put c.requires c.put_lower-rest.ensures.put c.put.ensures
+returns-clause-put c = before-put c.requires c.put_lower-rest.ensures.put (rw c.into.ensures at c.put.ensures)

@@ -19,4 +19,4 @@ pub overflow_add-result-2 : goal.overflow_add-result-2
 overflow_add-result-2 c = omega (arith, over_room _ c.in-Some.is c.args.to c.kept_notes.ensures c.requires.1)
 
 pub returns : goal.returns
-returns c = put_over _ c.in-Some.is c.kept_notes.ensures c.put.ensures
+returns c = put_over _ c.in-Some.is c.kept_notes.ensures (rw c.into.ensures at c.put.ensures)

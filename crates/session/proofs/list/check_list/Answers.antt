@@ -14,11 +14,11 @@ loop-words-init c = checked-start _ _ _ (zeros_are c.default-last.result c.defau
 
 pub returns-then-not-note_ok : goal.returns-then-not-note_ok
 returns-then-not-note_ok c =
-    not_ok _ _ _ _ c.as_chunks.ensures.front c.as_chunks.ensures.back_len (not_ranged _ _ _ c.loop-words.invariant c.loop-words-test.true _ c.note_at-note.ensures (sym c.note_ok.ensures ∙ c.if-not-note_ok.true))
+    not_ok _ _ _ _ c.as_chunks.ensures.front c.as_chunks.ensures.back_len (not_ranged _ _ _ c.loop-words.invariant c.loop-words-test.true _ c.from-note.ensures (sym c.note_ok.ensures ∙ c.if-not-note_ok.true))
 
 pub returns-then-not-note_follows : goal.returns-then-not-note_follows
 returns-then-not-note_follows c =
-    not_ok _ _ _ _ c.as_chunks.ensures.front c.as_chunks.ensures.back_len (not_follows _ _ _ c.loop-words.invariant c.loop-words-test.true _ c.note_at-note.ensures (sym c.note_follows.ensures ∙ c.if-not-note_follows.true))
+    not_ok _ _ _ _ c.as_chunks.ensures.front c.as_chunks.ensures.back_len (not_follows _ _ _ c.loop-words.invariant c.loop-words-test.true _ c.from-note.ensures (sym c.note_follows.ensures ∙ c.if-not-note_follows.true))
 
 pub cell_count-requires : goal.cell_count-requires
 cell_count-requires c =
@@ -27,8 +27,8 @@ cell_count-requires c =
 
 pub loop-words-preserved : goal.loop-words-preserved
 loop-words-preserved c =
-    checked-note _ _ _ c.loop-words.invariant c.loop-words-test.true _ c.note_at-note.ensures c.requires (sym c.note_ok.ensures ∙ c.if-not-note_ok.false) (sym c.note_follows.ensures ∙ c.if-not-note_follows.false)
-    (c.cell_count.ensures ∙ ap (λ δ. length (cells_of_note δ c.note_at-note.result)) c.new-by.ensures)
+    checked-note _ _ _ c.loop-words.invariant c.loop-words-test.true _ c.from-note.ensures c.requires (sym c.note_ok.ensures ∙ c.if-not-note_ok.false) (sym c.note_follows.ensures ∙ c.if-not-note_follows.false)
+    (c.cell_count.ensures ∙ ap (λ δ. length (cells_of_note δ c.from-note.result)) c.new-by.ensures)
 
 pub returns : goal.returns
 returns c =

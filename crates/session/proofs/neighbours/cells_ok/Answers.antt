@@ -16,10 +16,10 @@ pub loop-words-init : goal.loop-words-init
 loop-words-init c = first_right _ _ c.in-Some.ensures c.first_ok.ensures c.if-not-first_ok.false
 
 pub returns-then-not-next_ok : goal.returns-then-not-next_ok
-returns-then-not-next_ok c = sym (c.loop-words.invariant ∙ next_wrong _ _ (cell_behind _ _ c.loop-words-test.true _ c.cell_at-c.ensures) _ c.next_ok.ensures c.if-not-next_ok.true)
+returns-then-not-next_ok c = sym (c.loop-words.invariant ∙ next_wrong _ _ (cell_behind _ _ c.loop-words-test.true _ c.from-c.ensures) _ c.next_ok.ensures c.if-not-next_ok.true)
 
 pub loop-words-preserved : goal.loop-words-preserved
-loop-words-preserved c = c.loop-words.invariant ∙ next_right _ _ (cell_behind _ _ c.loop-words-test.true _ c.cell_at-c.ensures) _ c.next_ok.ensures c.if-not-next_ok.false
+loop-words-preserved c = c.loop-words.invariant ∙ next_right _ _ (cell_behind _ _ c.loop-words-test.true _ c.from-c.ensures) _ c.next_ok.ensures c.if-not-next_ok.false
 
 pub returns : goal.returns
 returns c = last_ok _ _ _ (at_drop_all cells_of _ _ c.loop-words-test.false) c.is_filling.ensures ∙ sym c.loop-words.invariant
