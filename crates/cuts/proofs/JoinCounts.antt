@@ -1,29 +1,32 @@
 -- Question 8 of a join: the pairs of cells over the line, counted lane by lane by one walk over both takes' cells. Assumes nothing.
 use mathlib.Core.Path.{◌≡◌, refl, sym, ap, ◌∙◌}
-use mathlib.Core.Bool.{Bool, true, false, not, true≢false}
+use mathlib.Core.Bool.{Bool, true, false, not}
 use mathlib.Core.List.{List, [], ◌∷◌, ◌++◌}
 use Prim.Native.Nat.{ℕ, suc, ◌+◌, ◌-◌, ◌*◌, ◌≤◌, ◌<◌, min}
 use native.Mathlib.Omega.{arith}
-use borrow.Author.Tests.{eq-eqb, eqb-true, leb-true, leb-false, not-true, not-false}
+use borrow.Author.Tests.{eqb-true, eqb-false, leb-true, leb-false, not-true, not-false}
 use lib.Dec.{eqb, leb}
-use lib.ListN.{length, length-append}
+use lib.ListN.{length, length-append, take, drop}
+use Rattle.std.specs.Prelude.{Option, Some, None, MatchOption}
+use Rattle.std.specs.List.{slice_get, AllWithin, HoldsAt, take-map, drop-map}
+use Rattle.std.specs.Option.{unwrap_or}
+use Rattle.std.proofs.lemmas.Iterator.{index_from_first}
+use Rattle.std.proofs.lemmas.List.{length-map}
+use Rattle.std.proofs.lemmas.Option.{none-some, slice_get-get_or}
+use Rattle.std.proofs.Math.Seq.{take-append_seam, drop-append_seam}
 use Rattle.model.specs.Binding.{stands_alone}
 use Rattle.model.specs.Limits.{max_words}
 use Rattle.model.specs.declared.Cell.{Cell}
 use Rattle.model.specs.declared.Header.{Header}
 use Rattle.laws.specs.JoinCount.{seams, seams_over, seams_step, lone-append, lone_few}
 use Rattle.laws.specs.JoinWalk.{From, cell_rest, cell_run, from-ahead, lane_ahead, rest_from, run-rest}
-use Rattle.laws.specs.Seam.{bound_at, first_or, lone, one, seam_of}
+use Rattle.laws.specs.Seam.{bound_at, lone, one, seam_of}
 use Rattle.laws.specs.SeamWalk.{last_or}
-use Rattle.session.specs.Reading.{cell_at, last_cells}
-use Rattle.session.proofs.Lasts.{no_cells, length_last, last_cells_lem}
-use Rattle.cuts.specs.declared.counting.CellRun.{CellRun}
+use Rattle.session.specs.Reading.{cell_at}
+use Rattle.session.specs.Sliced.{cells_of}
 use Rattle.cuts.specs.declared.counting.SeamCount.{SeamCount}
-use Rattle.cuts.specs.declared.halves.Contents.{Contents}
-use Rattle.cuts.specs.declared.lasts.Last.{Last}
-use Rattle.cuts.specs.Counting.{count_of, pair_at, run_cells, RunAhead, RunAt, SeamsAsks}
-use Rattle.cuts.specs.Lasts.{lane_of_last}
-use Rattle.cuts.proofs.JoinSeam.{ahead-first, cell_lane, last-cell, nothing, run_go, run_stop}
+use Rattle.cuts.specs.Counting.{count_of, pair_at}
+use Rattle.cuts.proofs.JoinSeam.{nothing, run_go, run_none, run_stop}
 
 abbrev none : SeamCount
 none = record { pairs = 0; alone = 0 }
@@ -52,87 +55,93 @@ module _ (h : Header) (k : ℕ) (c d : Cell) {b : Bool} (is : b ≡ bound_at h k
 
 -- ---- the cells of a lane
 
-module _ {s : List ℕ} {r : CellRun} (a : RunAhead s r) where
-  pub counted : r.cells.left ≡ r.rest.left + length (run_cells s r)
-  unfolding run_cells
-  counted =
-      let cs = last_cells s r.cells.end r.cells.left in
-      omega (
-        arith,
-        ap length (run-rest (λ c. c.lane) r.lane cs),
-        length-append (cell_run r.lane cs) (cell_rest r.lane cs),
-        ap length a.rest_is,
-        length_last s r.cells.end r.cells.left,
-        length_last s r.cells.end r.rest.left,
+-- the words of a cell of another lane, and of one of the lane
+abbrev pub Other : ℕ → List ℕ → Type 0
+Other lane w = (cell_at w 0).lane ≡ lane → ⊥
+
+abbrev pub Own : ℕ → List ℕ → Type 0
+Own lane w = (cell_at w 0).lane ≡ lane
+
+module _ (lane : ℕ) where
+  -- the first cell of another lane stands behind those of the lane
+  pub run_ends : (ws : List (List ℕ)) (r : Option ℕ)
+      → MatchOption r (AllWithin (Own lane) ws 0 (length ws)) (λ i. (i < length ws) × HoldsAt (Other lane) ws i × AllWithin (Own lane) ws 0 i)
+      → unwrap_or r (length ws) ≡ length (cell_run lane (cells_of ws))
+  run_ends ws r first =
+      sym (
+      index_from_first (λ vs. length (cell_run lane (cells_of vs))) (Other lane) (Own lane) (ap length (run_none (λ c. c.lane) lane))
+      (λ v vs d. ap length (run_stop (λ c. c.lane) lane (cell_at v 0) (cells_of vs) d))
+      (λ v vs e. omega (arith, ap length (run_go (λ c. c.lane) lane (cell_at v 0) (cells_of vs) e)))
+      ws r first
       )
 
-  -- no cell is of the lane
-  pub run_empty : r.rest.left ≡ r.cells.left → run_cells s r ≡ []
-  run_empty e = nothing (run_cells s r) (omega (arith, counted))
+  module _ (ws : List (List ℕ)) {n : ℕ} (is : n ≡ length (cell_run lane (cells_of ws))) where
+    abbrev run : List Cell
+    run = cell_run lane (cells_of ws)
 
-  module _ (some : r.rest.left ≡ r.cells.left → ⊥) where
-    pub first_place : (6 * r.cells.left ≤ r.cells.end) × (r.cells.end - 6 * r.cells.left + 6 ≤ length s)
-    first_place = (omega (arith, r.cells.fits), omega (arith, r.cells.fits, a.fewer, a.inside))
+    abbrev rest : List Cell
+    rest = cell_rest lane (cells_of ws)
 
-    last_is : (d : Cell) → last_or d (run_cells s r) ≡ cell_at s (r.cells.end - 6 * (r.rest.left + 1))
-    unfolding run_cells
-    last_is d = last-cell s r.lane r.cells.end d r.cells.left r.rest.left r.cells.fits counted (omega (arith, a.fewer))
+    both : run ++ rest ≡ cells_of ws
+    both = run-rest (λ c. c.lane) lane (cells_of ws)
 
-    first_is : (d : Cell) → first_or d (run_cells s r) ≡ cell_at s (r.cells.end - 6 * r.cells.left)
-    unfolding run_cells
-    first_is d = by (eqb c.lane r.lane) refl
-      where
-        c : Cell
-        c = cell_at s (r.cells.end - 6 * r.cells.left)
+    pub run_inside : n ≤ length ws
+    run_inside = omega (arith, is, ap length both, length-append run rest, length-map ws (λ w. cell_at w 0))
 
-        cs : List Cell
-        cs = last_cells s r.cells.end (r.cells.left - 1)
+    pub run_taken : cells_of (take n ws) ≡ run
+    run_taken = sym (take-map (λ w. cell_at w 0) n ws) ∙ ap (take n) (sym both) ∙ ap (λ (i : ℕ). take i (run ++ rest)) is ∙ take-append_seam run rest
 
-        front : last_cells s r.cells.end r.cells.left ≡ c ∷ cs
-        front = last_cells_lem s r.cells.end r.cells.left (omega (arith, a.fewer)) r.cells.fits
-
-        by : (b : Bool) → eqb c.lane r.lane ≡ b → first_or d (cell_run r.lane (last_cells s r.cells.end r.cells.left)) ≡ c
-        by true e = rw (ap (cell_run r.lane) front ∙ run_go (λ c. c.lane) r.lane c cs (eqb-true c.lane r.lane e))
-        by false e =
-            let run : cell_run r.lane (last_cells s r.cells.end r.cells.left) ≡ [] = ap (cell_run r.lane) front ∙ run_stop (λ c. c.lane) r.lane c cs (λ f. true≢false (sym (eq-eqb c.lane r.lane f) ∙ e)) in
-            absurd (some (omega (arith, counted, ap length run)))
+    pub run_dropped : cells_of (drop n ws) ≡ rest
+    run_dropped = sym (drop-map (λ w. cell_at w 0) n ws) ∙ ap (drop n) (sym both) ∙ ap (λ (i : ℕ). drop i (run ++ rest)) is ∙ drop-append_seam run rest
 
 -- ---- the pair of a lane
 
+some_same : {X : Type 0} {x y : X} → Some x ≡ Some y → x ≡ y
+some_same {x = x} e = ap (λ o. unwrap_or o x) e
+
+-- the last of the words is that of the last cell
+last-words : (v w : List ℕ) (ws : List (List ℕ)) → Some w ≡ slice_get (v ∷ ws) (length ws) → last_or (cell_at v 0) (cells_of ws) ≡ cell_at w 0
+last-words v w [] e = ap (λ x. cell_at x 0) (sym (some_same e))
+last-words v w (x ∷ xs) e = last-words x w xs e
+
 module _ (h : Header) (k : ℕ) where
-  pair_is : (cs ds : List Cell) (c d : Cell) → 0 < length cs → 0 < length ds → last_or d cs ≡ c → first_or c ds ≡ d → seam_of h k cs ds ≡ pair_at h k c d
-  unfolding seam_of pair_at
-  pair_is [] ds c d a b e f = absurd (omega arith)
-  pair_is (x ∷ xs) [] c d a b e f = absurd (omega arith)
-  pair_is (x ∷ xs) (y ∷ ys) c d a b e f = rw (e, f)
-
-  none_first : (ds : List Cell) → seam_of h k [] ds ≡ []
-  unfolding seam_of
-  none_first ds = refl
-
-  none_second : (cs : List Cell) → seam_of h k cs [] ≡ []
-  unfolding seam_of
-  none_second [] = refl
-  none_second (c ∷ cs) = refl
-
   none_is : none ≡ count_of h []
   unfolding count_of lone
   none_is = refl
 
-  module _ {s : List ℕ} {a b : CellRun} (p : RunAhead s a) (q : RunAhead s b) where
-    abbrev Counts : SeamCount → Type 0
-    Counts r = r ≡ count_of h (seam_of h k (run_cells s a) (run_cells s b))
+  abbrev Counts : List (List ℕ) → List (List ℕ) → SeamCount → Type 0
+  Counts vs ws r = r ≡ count_of h (seam_of h k (cells_of vs) (cells_of ws))
 
-    pub no_first : a.rest.left ≡ a.cells.left → {r : SeamCount} → r ≡ none → Counts r
-    no_first e f = f ∙ none_is ∙ ap (count_of h) (sym (rw (run_empty p e) (none_first (run_cells s b))))
+  pub no_first : (vs ws : List (List ℕ)) → None ≡ slice_get vs (length vs - 1) → {r : SeamCount} → r ≡ none → Counts vs ws r
+  unfolding seam_of
+  no_first [] ws e f = f ∙ none_is
+  no_first (v ∷ vs) ws e f = absurd (none-some _ (e ∙ slice_get-get_or (v ∷ vs) (length (v ∷ vs) - 1) v (omega arith)))
 
-    pub no_second : b.rest.left ≡ b.cells.left → {r : SeamCount} → r ≡ none → Counts r
-    no_second e f = f ∙ none_is ∙ ap (count_of h) (sym (rw (run_empty q e) (none_second (run_cells s a))))
+  pub no_second : (vs ws : List (List ℕ)) → None ≡ slice_get ws 0 → {r : SeamCount} → r ≡ none → Counts vs ws r
+  unfolding seam_of
+  no_second [] [] e f = f ∙ none_is
+  no_second (v ∷ vs) [] e f = f ∙ none_is
+  no_second vs (w ∷ ws) e f = absurd (none-some _ e)
 
-    pub lane_pair : (a.rest.left ≡ a.cells.left → ⊥) → (b.rest.left ≡ b.cells.left → ⊥) → {c d : Cell} → c ≡ cell_at s (a.cells.end - 6 * (a.rest.left + 1)) → d ≡ cell_at s (b.cells.end - 6 * b.cells.left)
-        → {r : SeamCount} → r ≡ count_of h (pair_at h k c d) → Counts r
-    lane_pair x y {c} {d} e f g =
-        g ∙ ap (count_of h) (sym (pair_is (run_cells s a) (run_cells s b) c d (omega (arith, counted p, p.fewer)) (omega (arith, counted q, q.fewer)) (last_is p x d ∙ sym e) (first_is q y c ∙ sym f)))
+  pub lane_pair : (vs ws : List (List ℕ)) {v w : List ℕ} → Some v ≡ slice_get vs (length vs - 1) → Some w ≡ slice_get ws 0 → {c d : Cell} → c ≡ cell_at v 0 → d ≡ cell_at w 0
+      → {r : SeamCount} → r ≡ count_of h (pair_at h k c d) → Counts vs ws r
+  unfolding seam_of pair_at
+  lane_pair [] ws e f is are g = absurd (none-some _ (sym e))
+  lane_pair (x ∷ xs) [] e f is are g = absurd (none-some _ (sym f))
+  lane_pair (x ∷ xs) (y ∷ ys) {v} {w} e f is are g =
+      g ∙ ap (count_of h) (rw (last-words x v xs (e ∙ ap (slice_get (x ∷ xs)) (omega arith)), is, are, some_same f))
+
+-- ---- the lane in front
+
+pub ahead-none : (ws : List (List ℕ)) → None ≡ slice_get ws 0 → 2048 ≡ lane_ahead (λ c. c.lane) (cells_of ws)
+unfolding lane_ahead
+ahead-none [] e = refl
+ahead-none (w ∷ ws) e = absurd (none-some _ e)
+
+pub ahead-is : (ws : List (List ℕ)) {w : List ℕ} → Some w ≡ slice_get ws 0 → (cell_at w 0).lane ≡ lane_ahead (λ c. c.lane) (cells_of ws)
+unfolding lane_ahead
+ahead-is [] e = absurd (none-some _ (sym e))
+ahead-is (v ∷ ws) e = ap (λ x. (cell_at x 0).lane) (some_same e)
 
 -- the lane in front has cells
 ahead-some : (l : ℕ) (cs : List Cell) → lane_ahead (λ c. c.lane) cs ≡ l → l < 2048 → 0 < length (cell_run l cs)
@@ -140,129 +149,93 @@ unfolding lane_ahead
 ahead-some l [] e b = absurd (omega arith)
 ahead-some l (c ∷ cs) e b = omega (arith, ap length (run_go (λ c. c.lane) l c cs e))
 
+-- the lane in front of some cells is a lane
+ahead-low : (i : ℕ) (cs : List Cell) → From (λ c. c.lane) i cs → 0 < length cs → lane_ahead (λ c. c.lane) cs < 2048
+unfolding lane_ahead
+ahead-low i [] f b = absurd (omega arith)
+ahead-low i (c ∷ cs) f b = f.below.0
+
 -- ---- all lanes
 
--- these cells are left of each take, and so many pairs are counted
-pub record Counting (s : List ℕ) (h : Header) (beats : ℕ) (first second : Contents) (left over : Last 6) (pairs alone : ℕ) : Type 0 where
-  pub left_in : left.end ≤ length s
-  pub over_in : over.end ≤ length s
+-- are there cells left?
+module _ (ws : List (List ℕ)) {b : Bool} (is : b ≡ eqb (length ws) 0) where
+  pub some-cells : b ≡ false → 0 < length (cells_of ws)
+  some-cells t = omega (arith, eqb-false (length ws) 0 (sym is ∙ t), length-map ws (λ w. cell_at w 0))
+
+  pub no_cells : b ≡ true → length (cells_of ws) ≡ 0
+  no_cells t = omega (arith, eqb-true (length ws) 0 (sym is ∙ t), length-map ws (λ w. cell_at w 0))
+
+-- these cells are left of each take, and so many pairs are counted of all
+pub record Counting (h : Header) (beats : ℕ) (all : List (Cell × Cell)) (cs ds : List Cell) (pairs alone : ℕ) : Type 0 where
   pub lane : ℕ
-  pub left-from : From (λ c. c.lane) lane (last_cells s left.end left.left)
-  pub over_from : From (λ c. c.lane) lane (last_cells s over.end over.left)
-  pub pairs_are : pairs + length (seams h beats (last_cells s left.end left.left) (last_cells s over.end over.left))
-      ≡ length (seams h beats (last_cells s first.cells.end first.cells.left) (last_cells s second.cells.end second.cells.left))
-  pub alone_are : alone + lone h (seams h beats (last_cells s left.end left.left) (last_cells s over.end over.left))
-      ≡ lone h (seams h beats (last_cells s first.cells.end first.cells.left) (last_cells s second.cells.end second.cells.left))
+  pub left-from : From (λ c. c.lane) lane cs
+  pub over_from : From (λ c. c.lane) lane ds
+  pub pairs_are : pairs + length (seams h beats cs ds) ≡ length all
+  pub alone_are : alone + lone h (seams h beats cs ds) ≡ lone h all
 
-module _ {s : List ℕ} {h : Header} {beats : ℕ} {first second : Contents} (a : SeamsAsks s h beats first second) where
-  abbrev all : List (Cell × Cell)
-  all = seams h beats (last_cells s first.cells.end first.cells.left) (last_cells s second.cells.end second.cells.left)
+module _ {h : Header} {beats : ℕ} {all : List (Cell × Cell)} {cs ds : List Cell} {pairs alone : ℕ} (l : Counting h beats all cs ds pairs alone) where
+  pub seams_counted : length cs ≡ 0 → ◌≡◌ {A = SeamCount} (record { pairs = pairs; alone = alone }) (count_of h all)
+  unfolding count_of lone
+  seams_counted z =
+      let over-now : seams h beats cs ds ≡ [] = rw (nothing cs z) (seams_over h beats ds) in
+      let p : pairs ≡ length all = omega (arith, l.pairs_are, ap length over-now) in
+      let q : alone ≡ lone h all = omega (arith, l.alone_are, ap (lone h) over-now) in
+      rw (p, q)
 
-  module _ {left over : Last 6} {pairs alone : ℕ} (l : Counting s h beats first second left over pairs alone) where
-    abbrev cs : List Cell
-    cs = last_cells s left.end left.left
+  module _ (more : 0 < length cs) {x y lane : ℕ} (e : x ≡ lane_ahead (λ c. c.lane) cs) (f : y ≡ lane_ahead (λ c. c.lane) ds) (least : lane ≡ min x y) where
+    lane_below : lane < 2048
+    lane_below = omega (arith, e, least, ahead-low l.lane cs l.left-from more)
 
-    abbrev ds : List Cell
-    ds = last_cells s over.end over.left
+    first-here : From (λ c. c.lane) lane cs
+    first-here = from-ahead (λ c. c.lane) l.lane lane cs l.left-from (omega (arith, e, least))
 
-    pub seams_counted : left.left ≤ 0 → ◌≡◌ {A = SeamCount} (record { pairs = pairs; alone = alone }) (count_of h all)
-    unfolding count_of lone
-    seams_counted z =
-        let none_left : left.left ≡ 0 = omega arith in
-        let no : cs ≡ [] = ap (last_cells s left.end) none_left ∙ no_cells s left.end in
-        let over-now : seams h beats cs ds ≡ [] = rw no (seams_over h beats ds) in
-        let p : pairs ≡ length all = omega (arith, l.pairs_are, ap length over-now) in
-        let q : alone ≡ lone h all = omega (arith, l.alone_are, ap (lone h) over-now) in
-        rw (p, q)
+    second_here : From (λ c. c.lane) lane ds
+    second_here = from-ahead (λ c. c.lane) l.lane lane ds l.over_from (omega (arith, f, least))
 
-    module _ (more : 0 < left.left) {x y lane : ℕ} (x_is : x ≡ lane_of_last 6 s left.end left.left) (y_is : y ≡ lane_of_last 6 s over.end over.left) (least : lane ≡ min x y) where
-      e : x ≡ lane_ahead (λ c. c.lane) cs
-      e = x_is ∙ cell_lane s left.end left.left left.fits
+    -- a cell of one or the other is passed
+    pub fewer_cells : {es gs : List Cell} → es ≡ cell_rest lane cs → gs ≡ cell_rest lane ds → length es + length gs < length cs + length ds
+    fewer_cells {es} {gs} a b = go (leb x y) refl
+      where
+        longer : (zs : List Cell) → length zs ≡ length (cell_run lane zs) + length (cell_rest lane zs)
+        longer zs = omega (arith, ap length (run-rest (λ c. c.lane) lane zs), length-append (cell_run lane zs) (cell_rest lane zs))
 
-      f : y ≡ lane_ahead (λ c. c.lane) ds
-      f = y_is ∙ cell_lane s over.end over.left over.fits
+        go : (t : Bool) → leb x y ≡ t → length es + length gs < length cs + length ds
+        go true t = let own : lane_ahead (λ c. c.lane) cs ≡ lane = omega (arith, e, least, leb-true x y t) in
+            omega (arith, ahead-some lane cs own lane_below, longer cs, longer ds, ap length a, ap length b)
+        go false t = let own : lane_ahead (λ c. c.lane) ds ≡ lane = omega (arith, f, least, leb-false x y t) in
+            omega (arith, ahead-some lane ds own lane_below, longer cs, longer ds, ap length a, ap length b)
 
-      front : cs ≡ cell_at s (left.end - 6 * left.left) ∷ last_cells s left.end (left.left - 1)
-      front = last_cells_lem s left.end left.left more left.fits
+    module _ {xs ys es gs : List Cell} (p : xs ≡ cell_run lane cs) (q : ys ≡ cell_run lane ds) (a : es ≡ cell_rest lane cs) (b : gs ≡ cell_rest lane ds) where
+      step : seams h beats cs ds ≡ seam_of h beats xs ys ++ seams h beats es gs
+      step = seams_step h beats lane cs ds lane_below first-here second_here ∙ rw (← p, ← q, ← a, ← b)
 
-      lane_below : lane < 2048
-      lane_below =
-          let c = cell_at s (left.end - 6 * left.left) in
-          let is : lane_ahead (λ c. c.lane) cs ≡ c.lane = ap (lane_ahead (λ c. c.lane)) front ∙ ahead-first (λ c. c.lane) 0 c (last_cells s left.end (left.left - 1)) in
-          let low : c.lane < 2048 = (rw front at l.left-from.below).0 in
-          omega (arith, e, is, least)
+      pairs_step : pairs + length (seam_of h beats xs ys) + length (seams h beats es gs) ≡ length all
+      pairs_step = omega (arith, l.pairs_are, ap length step, length-append (seam_of h beats xs ys) (seams h beats es gs))
 
-      first-here : From (λ c. c.lane) lane cs
-      first-here = from-ahead (λ c. c.lane) l.lane lane cs l.left-from (omega (arith, e, least))
+      alone_step : alone + lone h (seam_of h beats xs ys) + lone h (seams h beats es gs) ≡ lone h all
+      alone_step = omega (arith, l.alone_are, ap (lone h) step, lone-append h beats (seam_of h beats xs ys) (seams h beats es gs))
 
-      second_here : From (λ c. c.lane) lane ds
-      second_here = from-ahead (λ c. c.lane) l.lane lane ds l.over_from (omega (arith, f, least))
+      module _ {n : SeamCount} (is : n ≡ count_of h (seam_of h beats xs ys)) where
+        pairs_is : n.pairs ≡ length (seam_of h beats xs ys)
+        unfolding count_of
+        pairs_is = rw is
 
-      module _ {p q : CellRun} (g : RunAt s lane left p) (i : RunAt s lane over q) where
-        first-cells : run_cells s p ≡ cell_run lane cs
-        unfolding run_cells
-        first-cells = rw (g.lane_is, g.end_is, g.left_is)
+        alone_is : n.alone ≡ lone h (seam_of h beats xs ys)
+        unfolding count_of
+        alone_is = rw is
 
-        second_cells : run_cells s q ≡ cell_run lane ds
-        unfolding run_cells
-        second_cells = rw (i.lane_is, i.end_is, i.left_is)
+        pub pairs-room : length all ≤ max_words → pairs + n.pairs ≤ max_words
+        pairs-room few = omega (arith, pairs_is, pairs_step, few)
 
-        first_rest : last_cells s p.rest.end p.rest.left ≡ cell_rest lane cs
-        first_rest = ap (λ (e : ℕ). last_cells s e p.rest.left) g.ahead.end_is ∙ g.ahead.rest_is ∙ rw (g.lane_is, g.end_is, g.left_is)
+        pub alone-room : length all ≤ max_words → alone + n.alone ≤ 2 * max_words
+        alone-room few = omega (arith, alone_is, alone_step, lone_few h beats all, few)
 
-        second_rest : last_cells s q.rest.end q.rest.left ≡ cell_rest lane ds
-        second_rest = ap (λ (e : ℕ). last_cells s e q.rest.left) i.ahead.end_is ∙ i.ahead.rest_is ∙ rw (i.lane_is, i.end_is, i.left_is)
-
-        abbrev here : List (Cell × Cell)
-        here = seam_of h beats (run_cells s p) (run_cells s q)
-
-        abbrev behind : List (Cell × Cell)
-        behind = seams h beats (last_cells s p.rest.end p.rest.left) (last_cells s q.rest.end q.rest.left)
-
-        step : seams h beats cs ds ≡ here ++ behind
-        step = seams_step h beats lane cs ds lane_below first-here second_here ∙ rw (← first-cells, ← second_cells, ← first_rest, ← second_rest)
-
-        pairs_step : pairs + length here + length behind ≡ length all
-        pairs_step = omega (arith, l.pairs_are, ap length step, length-append here behind)
-
-        alone_step : alone + lone h here + lone h behind ≡ lone h all
-        alone_step = omega (arith, l.alone_are, ap (lone h) step, lone-append h beats here behind)
-
-        -- a cell of one or the other is passed
-        pub fewer_cells : p.rest.left + q.rest.left < left.left + over.left
-        fewer_cells = go (leb x y) refl
-          where
-            go : (b : Bool) → leb x y ≡ b → p.rest.left + q.rest.left < left.left + over.left
-            go true t =
-                let own : lane_ahead (λ c. c.lane) cs ≡ lane = omega (arith, e, least, leb-true x y t) in
-                omega (arith, ahead-some lane cs own lane_below, ap length first-cells, counted g.ahead, g.left_is, i.ahead.fewer, i.left_is)
-            go false t =
-                let own : lane_ahead (λ c. c.lane) ds ≡ lane = omega (arith, f, least, leb-false x y t) in
-                omega (arith, ahead-some lane ds own lane_below, ap length second_cells, counted i.ahead, i.left_is, g.ahead.fewer, g.left_is)
-
-        module _ {n : SeamCount} (is : n ≡ count_of h here) where
-          pairs_is : n.pairs ≡ length here
-          unfolding count_of
-          pairs_is = rw is
-
-          alone_is : n.alone ≡ lone h here
-          unfolding count_of
-          alone_is = rw is
-
-          pub pairs-room : pairs + n.pairs ≤ max_words
-          pairs-room = omega (arith, pairs_is, pairs_step, a.few)
-
-          pub alone-room : alone + n.alone ≤ 2 * max_words
-          alone-room = omega (arith, alone_is, alone_step, lone_few h beats all, a.few)
-
-          pub counting_lane : Counting s h beats first second p.rest q.rest (pairs + n.pairs) (alone + n.alone)
-          counting_lane =
-              record {
-                left_in = omega (arith, l.left_in, g.ahead.end_is, g.end_is);
-                over_in = omega (arith, l.over_in, i.ahead.end_is, i.end_is);
-                lane = suc lane;
-                left-from = rw first_rest (rest_from (λ c. c.lane) lane cs first-here);
-                over_from = rw second_rest (rest_from (λ c. c.lane) lane ds second_here);
-                pairs_are = omega (arith, pairs_is, pairs_step);
-                alone_are = omega (arith, alone_is, alone_step);
-              }
+        pub counting_lane : Counting h beats all es gs (pairs + n.pairs) (alone + n.alone)
+        counting_lane =
+            record {
+              lane = suc lane;
+              left-from = rw a (rest_from (λ c. c.lane) lane cs first-here);
+              over_from = rw b (rest_from (λ c. c.lane) lane ds second_here);
+              pairs_are = omega (arith, pairs_is, pairs_step);
+              alone_are = omega (arith, alone_is, alone_step);
+            }

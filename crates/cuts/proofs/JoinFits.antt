@@ -2,11 +2,11 @@
 use mathlib.Core.Path.{◌≡◌, refl, sym, ap, ◌∙◌}
 use mathlib.Core.Bool.{Bool, true, false}
 use mathlib.Core.List.{List}
-use Prim.Native.Nat.{ℕ, ◌+◌, ◌*◌, ◌≤◌, min}
+use Prim.Native.Nat.{ℕ, ◌+◌, ◌-◌, ◌*◌, ◌≤◌, min}
 use native.Mathlib.Omega.{arith}
 use borrow.Author.Tests.{le-leb, leb-true, leb-false}
 use lib.Dec.{leb}
-use lib.ListN.{length}
+use lib.ListN.{length, drop}
 use Rattle.model.specs.Limits.{lane_count, max_words}
 use Rattle.model.specs.Questions.{fits, take_at}
 use Rattle.model.specs.Session.{shelf_at}
@@ -18,7 +18,10 @@ use Rattle.laws.specs.Joining.{length-join-cells}
 use Rattle.laws.specs.JoinWalk.{join_four}
 use Rattle.laws.specs.Reading.{length-cells, length_read}
 use Rattle.laws.specs.Seam.{lone}
+use Rattle.std.specs.Simd.{first_chunks}
 use Rattle.session.specs.Reading.{last_notes, last_cells}
+use Rattle.session.specs.Sliced.{cells_of}
+use Rattle.session.proofs.Wholes.{whole_cells}
 use Rattle.cuts.specs.declared.counting.SeamCount.{SeamCount}
 use Rattle.cuts.specs.declared.halves.Contents.{Contents}
 use Rattle.cuts.specs.Counting.{count_of, counted_words, CountsAsks, SeamsAsks}
@@ -86,40 +89,45 @@ module _ {s : List ℕ} {h : Header} {i j k : ℕ} (a : JoinAsks s h i j k) wher
         let room = join-room h (range a).some-ticks (range a).kept-within t u (solid_first a) (solid_second a) in
         sym (le-leb (3 + 4 * length (notes_of h both) + 6 * length both.cells) h.words (omega (arith, yes, e, room, join_has, first-notes, second_notes, first-cells, second_cells)))
 
+    -- the cells of both are read in their places
+    pub first-inside : first.cells.end ≤ length s
+    first-inside = (placed (first_read a) r s refl (shelf_at h k) 0 (omega arith) (omega arith)).inside
+
+    pub second_inside : second.cells.end ≤ length s
+    second_inside = (placed (second_read a) q s refl (shelf_at h k) 0 (omega arith) (omega arith)).inside
+
     -- by the pairs that are counted
     abbrev pairs : List (Cell × Cell)
-    pairs = seams h t.beats (last_cells s first.cells.end first.cells.left) (last_cells s second.cells.end second.cells.left)
+    pairs = seams h t.beats t.cells u.cells
 
-    pairs_are : pairs ≡ seams h t.beats t.cells u.cells
-    pairs_are = rw (r.cells_are, q.cells_are)
+    module _ {beats : ℕ} (is : beats ≡ t.beats) {vs ws : List (List ℕ)}
+        (v : vs ≡ first_chunks 6 first.cells.left (drop (first.cells.end - 6 * first.cells.left) s)) (w : ws ≡ first_chunks 6 second.cells.left (drop (second.cells.end - 6 * second.cells.left) s)) where
+      first-words : cells_of vs ≡ t.cells
+      unfolding last_cells
+      first-words = ap cells_of v ∙ whole_cells first.cells.left (drop (first.cells.end - 6 * first.cells.left) s) ∙ r.cells_are
 
-    few : length pairs ≤ max_words
-    few =
-        let most = pairs_few h (range a).some-ticks (range a).kept-within t u (solid_first a) (solid_second a) in
-        omega (arith, ap length pairs_are, most, first-cells, r.used_is, (range a).small)
+      second_words : cells_of ws ≡ u.cells
+      unfolding last_cells
+      second_words = ap cells_of w ∙ whole_cells second.cells.left (drop (second.cells.end - 6 * second.cells.left) s) ∙ q.cells_are
 
-    module _ {beats : ℕ} (is : beats ≡ t.beats) where
-      pub seams_asks : SeamsAsks s h beats first second
+      few : length pairs ≤ max_words
+      few =
+          let most = pairs_few h (range a).some-ticks (range a).kept-within t u (solid_first a) (solid_second a) in
+          omega (arith, most, first-cells, r.used_is, (range a).small)
+
+      pub seams_asks : SeamsAsks h beats (cells_of vs) (cells_of ws)
       seams_asks =
-          let p = placed (first_read a) r s refl (shelf_at h k) 0 (omega arith) (omega arith) in
-          let o = placed (second_read a) q s refl (shelf_at h k) 0 (omega arith) (omega arith) in
           let f = join_four h (range a).some-ticks (range a).kept-within t u (solid_first a) (solid_second a) in
-          record {
-            first-inside = p.inside;
-            second_inside = o.inside;
-            first-from = rw r.cells_are f.first-cells;
-            second_from = rw q.cells_are f.second_cells;
-            few = rw is few;
-          }
+          record { first-from = rw first-words f.first-cells; second_from = rw second_words f.second_cells; few = rw (is, first-words, second_words) few }
 
-      module _ {n : SeamCount} (e : n ≡ count_of h (seams h beats (last_cells s first.cells.end first.cells.left) (last_cells s second.cells.end second.cells.left))) where
+      module _ {n : SeamCount} (e : n ≡ count_of h (seams h beats (cells_of vs) (cells_of ws))) where
         pairs_is : n.pairs ≡ length pairs
         unfolding count_of
-        pairs_is = rw (e, is)
+        pairs_is = rw (e, is, first-words, second_words)
 
         alone_is : n.alone ≡ lone h pairs
         unfolding count_of
-        alone_is = rw (e, is)
+        alone_is = rw (e, is, first-words, second_words)
 
         pub exact_asks : CountsAsks h first second n.pairs n.alone
         exact_asks = counts_asks n.pairs n.alone (omega (arith, pairs_is, few)) (omega (arith, alone_is, few, lone_few h t.beats pairs))
@@ -129,5 +137,5 @@ module _ {s : List ℕ} {h : Header} {i j k : ℕ} (a : JoinAsks s h i j k) wher
         fits_counted f =
             let many = join-length h (range a).some-ticks (range a).kept-within t u (solid_first a) (solid_second a) in
             let exact : counted_words first second n.pairs ≡ 3 + 4 * length (notes_of h both) + 6 * length both.cells + 4 * n.alone =
-            omega (arith, many, join_has, first-notes, second_notes, pairs_is, alone_is, ap length pairs_are, ap (lone h) pairs_are) in
+            omega (arith, many, join_has, first-notes, second_notes, pairs_is, alone_is) in
             f ∙ same_test (counted_words first second n.pairs) (h.words + 4 * n.alone) (3 + 4 * length (notes_of h both) + 6 * length both.cells) h.words (λ x. omega (arith, x, exact)) (λ x. omega (arith, x, exact))

@@ -1,18 +1,15 @@
 -- Question 8 of a join: the pairs of cells over the line between the takes, counted lane by lane, and the words of the result.
 -- Assumes nothing.
-use Rattle.std.specs.Prelude.{◌≡◌, List, [], ℕ, ◌+◌, ◌*◌, ◌≤◌, length}
+use Rattle.std.specs.Prelude.{List, [], ℕ, ◌+◌, ◌*◌, ◌≤◌, length}
 use Rattle.model.specs.Limits.{max_words}
 use Rattle.model.specs.Lists.{cons_if}
 use Rattle.model.specs.declared.Cell.{Cell}
 use Rattle.model.specs.declared.Header.{Header}
 use Rattle.laws.specs.JoinCount.{seams}
-use Rattle.laws.specs.JoinWalk.{From, cell_rest, cell_run}
+use Rattle.laws.specs.JoinWalk.{From}
 use Rattle.laws.specs.Seam.{bound_at, lone}
-use Rattle.session.specs.Reading.{last_cells}
-use Rattle.cuts.specs.declared.counting.CellRun.{CellRun}
 use Rattle.cuts.specs.declared.counting.SeamCount.{SeamCount}
 use Rattle.cuts.specs.declared.halves.Contents.{Contents}
-use Rattle.cuts.specs.declared.lasts.Last.{Last}
 use Rattle.cuts.specs.Joined.{JoinAsks}
 
 -- How many pairs, and how many of their cells stand alone.
@@ -25,33 +22,13 @@ unfoldable pub pair_at : Header → ℕ → Cell → Cell → List (Cell × Cell
 unfolding bound_at
 pair_at h beats c d = cons_if (bound_at h beats c d) (c, d) []
 
--- ---- the cells of a lane
-
-unfoldable pub run_cells : List ℕ → CellRun → List Cell
-run_cells s r = cell_run r.lane (last_cells s r.cells.end r.cells.left)
-
--- They stand in their places, in front of those that are left.
-pub record RunAhead (s : List ℕ) (r : CellRun) : Type 0 where
-  pub inside : r.cells.end ≤ length s
-  pub rest_is : last_cells s r.cells.end r.rest.left ≡ cell_rest r.lane (last_cells s r.cells.end r.cells.left)
-  pub end_is : r.rest.end ≡ r.cells.end
-  pub fewer : r.rest.left ≤ r.cells.left
-
-pub record RunAt (s : List ℕ) (lane : ℕ) (cells : Last 6) (r : CellRun) : Type 0 where
-  pub lane_is : r.lane ≡ lane
-  pub end_is : r.cells.end ≡ cells.end
-  pub left_is : r.cells.left ≡ cells.left
-  pub ahead : RunAhead s r
-
 -- ---- all lanes
 
--- The cells of two takes in their places, in the order of lanes, and not too many pairs to count.
-pub record SeamsAsks (s : List ℕ) (h : Header) (beats : ℕ) (first second : Contents) : Type 0 where
-  pub first-inside : first.cells.end ≤ length s
-  pub second_inside : second.cells.end ≤ length s
-  pub first-from : From (λ c. c.lane) 0 (last_cells s first.cells.end first.cells.left)
-  pub second_from : From (λ c. c.lane) 0 (last_cells s second.cells.end second.cells.left)
-  pub few : length (seams h beats (last_cells s first.cells.end first.cells.left) (last_cells s second.cells.end second.cells.left)) ≤ max_words
+-- The cells of two takes, in the order of lanes, and not too many pairs to count.
+pub record SeamsAsks (h : Header) (beats : ℕ) (first second : List Cell) : Type 0 where
+  pub first-from : From (λ c. c.lane) 0 first
+  pub second_from : From (λ c. c.lane) 0 second
+  pub few : length (seams h beats first second) ≤ max_words
 
 -- ---- the words of the result
 

@@ -4,14 +4,15 @@ ghost use Rattle.model.specs.Limits.{lane_count};
 ghost use Rattle.model.specs.Questions.{fits, take_at};
 ghost use Rattle.model.specs.Takes.{join_takes};
 ghost use Rattle.laws.specs.JoinCount.{seams};
+ghost use Rattle.laws.specs.JoinWalk.{cell_rest, cell_run, lane_ahead};
 ghost use Rattle.laws.specs.Seam.{seam_of};
-ghost use Rattle.session.specs.Reading.{last_cells};
-ghost use Rattle.cuts.specs.Counting.{count_of, pair_at, run_cells, RunAhead, RunAt, SeamsAsks, CountsAsks, counted_words, FitAsks};
+ghost use Rattle.session.specs.Sliced.{cells_of};
+ghost use Rattle.cuts.specs.Counting.{count_of, pair_at, SeamsAsks, CountsAsks, counted_words, FitAsks};
 
 use crate::halves::Contents;
-use crate::lasts::LastCells;
 use crate::{halves, joined, seam};
 use model::{Cell, Header};
+use session::slices::CellWords;
 use session::view::SessionView;
 use session::{notes, rules};
 
@@ -39,63 +40,63 @@ fn pair_count(h: Header, beats: u32, c: Cell, d: Cell) -> SeamCount
     }
 }
 
-// The cells of a lane in front of the last cells, and those that are left behind them.
-#[derive(Clone, Copy)]
-pub struct CellRun {
-    pub lane: u32,
-    pub cells: LastCells,
-    pub rest: LastCells,
+// So many cells of a lane are in front.
+fn count_run(cells: &[CellWords], lane: u32) -> usize
+    ensures { result ≡ length (cell_run lane (cells_of cells.now)) }
+{
+    let other = cells.iter().position(|words| words[0] != lane);
+    other.unwrap_or(cells.len())
 }
 
-// The cells of a lane in front of the last cells.
-fn cell_run(s: &[u32], lane: u32, cells: LastCells) -> CellRun
-    requires { cells.end ≤ length s.now }
-    ensures { RunAt s.now lane cells result }
+// The cells of a lane in front, and those behind them.
+fn lane_run(cells: &[CellWords], lane: u32) -> (&[CellWords], &[CellWords])
+    ensures run { cells_of result.0.now ≡ cell_run lane (cells_of cells.now) }
+    ensures rest { cells_of result.1.now ≡ cell_rest lane (cells_of cells.now) }
 {
-    CellRun {
-        lane,
-        cells,
-        rest: seam::behind_cell_run(s, cells, lane),
-    }
+    cells.split_at(count_run(cells, lane))
 }
 
-// The pair of a lane: the last of the first take's cells and the first of the second's, if they are bound over the line.
-fn lane_count(s: &[u32], h: Header, beats: u32, first: CellRun, second: CellRun) -> SeamCount
-    requires { RunAhead s.now first × RunAhead s.now second }
-    ensures { result ≡ count_of h (seam_of h beats (run_cells s.now first) (run_cells s.now second)) }
+// The pair of a lane's cells: the last of the first take's and the first of the second's, if they are bound over the line.
+fn run_count(h: Header, beats: u32, first: &[CellWords], second: &[CellWords]) -> SeamCount
+    ensures { result ≡ count_of h (seam_of h beats (cells_of first.now) (cells_of second.now)) }
 {
-    if first.rest.left == first.cells.left {
+    let (Some(c), Some(d)) = (first.last(), second.first()) else {
         return SeamCount::default();
-    }
-    if second.rest.left == second.cells.left {
-        return SeamCount::default();
-    }
-    let c = notes::cell_at(s, first.cells.end - 6 * (first.rest.left + 1));
-    let d = notes::cell_at(s, second.cells.place());
-    pair_count(h, beats, c, d)
+    };
+    pair_count(h, beats, notes::cell_at(c, 0), notes::cell_at(d, 0))
 }
 
 // ---- all lanes
 
-// The pairs of two takes' cells, the first of so many beats: one walk over both, the least lane in front next.
-fn count_seams(s: &[u32], h: Header, beats: u32, first: Contents, second: Contents) -> SeamCount
-    requires { SeamsAsks s.now h beats first second }
-    ensures { result ≡ count_of h (seams h beats (last_cells s.now first.cells.end first.cells.left) (last_cells s.now second.cells.end second.cells.left)) }
+// The lane of the first cell: 2,048 if there is none, a number above all lanes, so that the least lane of two takes is a minimum.
+fn lane_ahead(cells: &[CellWords]) -> u32
+    ensures { result ≡ lane_ahead (λ c. c.lane) (cells_of cells.now) }
 {
-    let mut left = first.cells;
-    let mut over = second.cells;
+    let Some(words) = cells.first() else {
+        return Header::LANES;
+    };
+    words[0]
+}
+
+// The pairs of two takes' cells, the first of so many beats: one walk over both, the least lane in front next.
+fn count_seams(h: Header, beats: u32, first: &[CellWords], second: &[CellWords]) -> SeamCount
+    requires { SeamsAsks h beats (cells_of first.now) (cells_of second.now) }
+    ensures { result ≡ count_of h (seams h beats (cells_of first.now) (cells_of second.now)) }
+{
+    let mut left = first;
+    let mut over = second;
     let mut pairs = 0;
     let mut alone = 0;
     // No `for`: each turn goes behind all cells of a lane, and both takes go on together, so that an iterator would have to hold both.
-    while 0 < left.left {
-        let lane = left.lane(s).min(over.lane(s));
-        let a = cell_run(s, lane, left);
-        let b = cell_run(s, lane, over);
-        let next = lane_count(s, h, beats, a, b);
+    while !left.is_empty() {
+        let lane = lane_ahead(left).min(lane_ahead(over));
+        let (a, behind) = lane_run(left, lane);
+        let (b, rest) = lane_run(over, lane);
+        let next = run_count(h, beats, a, b);
         pairs += next.pairs;
         alone += next.alone;
-        left = a.rest;
-        over = b.rest;
+        left = behind;
+        over = rest;
     }
     SeamCount { pairs, alone }
 }
@@ -132,6 +133,11 @@ pub fn join_fits(s: SessionView, first: u32, second: u32) -> bool
     if counts_fit(h, a, b, most_pairs(a, b), 0) {
         return true;
     }
-    let seams = count_seams(s.words, h, joined::beats_at(s, first), a, b);
+    let seams = count_seams(
+        h,
+        joined::beats_at(s, first),
+        a.cells.arrays(s.words),
+        b.cells.arrays(s.words),
+    );
     counts_fit(h, a, b, seams.pairs, seams.alone)
 }
