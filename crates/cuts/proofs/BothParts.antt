@@ -19,12 +19,13 @@ use Rattle.laws.specs.Cutting.{note_back}
 use Rattle.laws.specs.Sessions.{length-note_words}
 use Rattle.laws.specs.Sweep.{skip}
 use Rattle.session.specs.Reading.{last_cells}
+use Rattle.cuts.specs.declared.lasts.Last.{Last}
 use Rattle.cuts.specs.declared.halves.Half.{Half}
 use Rattle.cuts.specs.declared.halves.Ends.{Ends}
 use Rattle.cuts.specs.declared.halves.CellPlace.{CellPlace}
 use Rattle.cuts.specs.declared.halves.Cursors.{Cursors}
 use Rattle.cuts.specs.Halving.{passed, across_parts, Noted}
-use Rattle.cuts.specs.BothHalves.{part_from, cell_place, left_cell, right_cell, BothPut, PartsAsks, PartsPut}
+use Rattle.cuts.specs.BothHalves.{part_from, cell_place, left_cell, right_cell, BothPut, Sides, PartsAsks, PartsPut}
 use Rattle.cuts.proofs.Parts.{none_before, none-behind, some_across, part-before-left, part-before-right, part-behind-left, part-behind-right, part_across}
 use Rattle.cuts.proofs.Passes.{cells_agree}
 use Rattle.cuts.proofs.Skips.{goes_on}
@@ -42,25 +43,25 @@ module _ (s : List ℕ) (at : Ends) {ls rs : List ℕ} (ws : List ℕ) where
 
 -- ---- a note
 
-module _ {s : List ℕ} {h : Header} {a b : Half} {n : Note} {end : ℕ} {at : Cursors} (q : PartsAsks s h a b n end at) where
+module _ {s : List ℕ} {h : Header} {a b : Half} (sides : Sides a b) {n : Note} {end : ℕ} {at : Cursors} (q : PartsAsks s h a b n end at) where
   abbrev closing : List Cell
-  closing = last_cells s end at.closings
+  closing = last_cells s end at.closings.left
 
   abbrev opening : List Cell
-  opening = last_cells s end at.openings
+  opening = last_cells s end at.openings.left
 
   -- it ends on the line or before it
   module _ (i : n.end ≤ a.line) where
     right_ends : n.end ≤ b.line
-    right_ends = rw q.sides.line_is i
+    right_ends = rw sides.line_is i
 
     before-left : part_from h a n closing ≡ n ∷ []
     unfolding part_from
-    before-left = part-before-left h a n (passed a n closing) i q.sides.left_is
+    before-left = part-before-left h a n (passed a n closing) i sides.left_is
 
     before-right : part_from h b n opening ≡ []
     unfolding part_from
-    before-right = part-before-right h b n (passed b n opening) right_ends q.sides.right_is
+    before-right = part-before-right h b n (passed b n opening) right_ends sides.right_is
 
     pub before-room : at.to.left + 4 ≤ length s
     before-room = rw before-left at q.left-room
@@ -68,6 +69,8 @@ module _ {s : List ℕ} {h : Header} {a b : Half} {n : Note} {end : ℕ} {at : C
     pub before-put : {t : List ℕ} → t ≡ splice s at.to.left (note_words n)
         → PartsPut s h a b n end at t (record { to = record { left = at.to.left + 4; right = at.to.right }; closings = at.closings; openings = at.openings })
     before-put e = record {
+      closings_end = q.closings_end;
+      openings_end = q.openings_end;
       closings_are = none_before a n closing i;
       closings_few = omega arith;
       openings_are = none_before b n opening right_ends;
@@ -78,20 +81,20 @@ module _ {s : List ℕ} {h : Header} {a b : Half} {n : Note} {end : ℕ} {at : C
 
   module _ (i : a.line < n.end) where
     right_over : b.line < n.end
-    right_over = rw q.sides.line_is i
+    right_over = rw sides.line_is i
 
     -- it starts on the line or behind it
     module _ (j : a.line ≤ n.start) where
       right_starts : b.line ≤ n.start
-      right_starts = rw q.sides.line_is j
+      right_starts = rw sides.line_is j
 
       behind-left : part_from h a n closing ≡ []
       unfolding part_from
-      behind-left = part-behind-left h a n (passed a n closing) i j q.sides.left_is
+      behind-left = part-behind-left h a n (passed a n closing) i j sides.left_is
 
       behind-right : part_from h b n opening ≡ note_back a.line n ∷ []
       unfolding part_from
-      behind-right = part-behind-right h b n (passed b n opening) right_over right_starts q.sides.right_is ∙ ap (λ (x : ℕ). note_back x n ∷ []) q.sides.line_is
+      behind-right = part-behind-right h b n (passed b n opening) right_over right_starts sides.right_is ∙ ap (λ (x : ℕ). note_back x n ∷ []) sides.line_is
 
       pub behind-room : at.to.right + 4 ≤ length s
       behind-room = rw behind-right at q.right-room
@@ -99,6 +102,8 @@ module _ {s : List ℕ} {h : Header} {a b : Half} {n : Note} {end : ℕ} {at : C
       pub behind-put : {t : List ℕ} → t ≡ splice s at.to.right (note_words (note_back a.line n))
           → PartsPut s h a b n end at t (record { to = record { left = at.to.left; right = at.to.right + 4 }; closings = at.closings; openings = at.openings })
       behind-put e = record {
+        closings_end = q.closings_end;
+        openings_end = q.openings_end;
         closings_are = none-behind a n closing i j;
         closings_few = omega arith;
         openings_are = none-behind b n opening right_over right_starts;
@@ -110,9 +115,9 @@ module _ {s : List ℕ} {h : Header} {a b : Half} {n : Note} {end : ℕ} {at : C
     -- it crosses the line
     module _ (j : n.start < a.line) where
       right-under : n.start < b.line
-      right-under = rw q.sides.line_is j
+      right-under = rw sides.line_is j
 
-      module _ {k : ℕ} (e : (last_cells s end k ≡ skip n.lane a.edge closing) × (k ≤ at.closings)) where
+      module _ {k : ℕ} (e : (last_cells s end k ≡ skip n.lane a.edge closing) × (k ≤ at.closings.left)) where
         closed : last_cells s end k ≡ passed a n closing
         closed = e.0 ∙ some_across a n closing i j
 
@@ -124,12 +129,12 @@ module _ {s : List ℕ} {h : Header} {a b : Half} {n : Note} {end : ℕ} {at : C
         left_asks = (rw left_part at q.left-room, q.inside, omega arith)
 
         -- the search that goes on from the closing cell, or from the opening cell before
-        module _ {x : ℕ} (is : x ≡ min k at.openings) where
+        module _ {x : ℕ} (is : x ≡ min k at.openings.left) where
           pub found_on : {o : ℕ} → (last_cells s end o ≡ skip n.lane b.edge (last_cells s end x)) × (o ≤ x)
-              → (last_cells s end o ≡ skip n.lane b.edge opening) × (o ≤ at.openings) × (o ≤ k)
-          found_on g = goes_on s end n.lane a.edge b.edge at.closings k at.openings q.sides.edges q.closings_in q.order e.0 is g
+              → (last_cells s end o ≡ skip n.lane b.edge opening) × (o ≤ at.openings.left) × (o ≤ k)
+          found_on g = goes_on s end n.lane a.edge b.edge at.closings.left k at.openings.left sides.edges q.closings_in q.order e.0 is g
 
-        module _ {o : ℕ} (f : (last_cells s end o ≡ skip n.lane b.edge opening) × (o ≤ at.openings) × (o ≤ k)) where
+        module _ {o : ℕ} (f : (last_cells s end o ≡ skip n.lane b.edge opening) × (o ≤ at.openings.left) × (o ≤ k)) where
           opened : last_cells s end o ≡ passed b n opening
           opened = f.0 ∙ some_across b n opening right_over right-under
 
@@ -149,8 +154,8 @@ module _ {s : List ℕ} {h : Header} {a b : Half} {n : Note} {end : ℕ} {at : C
             still : last_cells s₁ end o ≡ last_cells s end o
             unfolding lefts
             still =
-                let apart : Apart (end - 6 * at.openings) (6 * at.openings) at.to.left (4 * length lefts) = rw left_part at q.apart in
-                let same : Same s₁ s (end - 6 * at.openings) (6 * at.openings) =
+                let apart : Apart (end - 6 * at.openings.left) (6 * at.openings.left) at.to.left (4 * length lefts) = rw left_part at q.apart in
+                let same : Same s₁ s (end - 6 * at.openings.left) (6 * at.openings.left) =
                 rw m.words (splice_same s at.to.left (gather note_words lefts) apart (omega (arith, length-note_words lefts))) in
                 cells_agree s₁ s end end o (omega (arith, q.closings_in, q.order, f.1)) (omega (arith, q.closings_in, q.order, f.1))
                 (λ x pos upto. same.at (end - x) (omega (arith, q.closings_in, q.order, f.1)) (omega (arith, q.closings_in, q.order, f.1)))
@@ -160,14 +165,17 @@ module _ {s : List ℕ} {h : Header} {a b : Half} {n : Note} {end : ℕ} {at : C
                 let room : at.to.right + 4 * length (across_parts h b n (last_cells s end o)) ≤ length s = rw right_part at q.right-room in
                 (rw (still, long) room, rw long q.inside, omega arith)
 
-            pub crossed_put : {s₂ : List ℕ} {r : ℕ} → Noted s₁ at.to.right (across_parts h b n (last_cells s₁ end o)) s₂ r
-                → PartsPut s h a b n end at s₂ (record { to = record { left = l; right = r }; closings = k; openings = o })
-            crossed_put m₂ = record {
-              closings_are = closed;
-              closings_few = e.1;
-              openings_are = opened;
-              openings_few = f.1;
-              order = f.2;
+            pub crossed_put : {x y : Last 6} → (x.end ≡ end) × (x.left ≡ k) → (y.end ≡ end) × (y.left ≡ o)
+                → {s₂ : List ℕ} {r : ℕ} → Noted s₁ at.to.right (across_parts h b n (last_cells s₁ end o)) s₂ r
+                → PartsPut s h a b n end at s₂ (record { to = record { left = l; right = r }; closings = x; openings = y })
+            crossed_put x y m₂ = record {
+              closings_end = x.0;
+              openings_end = y.0;
+              closings_are = ap (last_cells s end) x.1 ∙ closed;
+              closings_few = omega (arith, x.1, e.1);
+              openings_are = ap (last_cells s end) y.1 ∙ opened;
+              openings_few = omega (arith, y.1, f.1);
+              order = omega (arith, x.1, y.1, f.2);
               put = record {
                 words = m₂.words ∙ rw (still, m.words, left_part, right_part);
                 left_behind = m.behind ∙ rw left_part (omega (arith, length-note_words (across_parts h a n (last_cells s end k))));

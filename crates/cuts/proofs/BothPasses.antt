@@ -1,5 +1,5 @@
 -- The two passes that write both halves: over a shelf's notes, and over its cells. Assumes nothing.
-use mathlib.Core.Path.{◌≡◌, sym, ap, ◌∙◌}
+use mathlib.Core.Path.{◌≡◌, refl, sym, ap, subst, ◌∙◌}
 use mathlib.Core.List.{List, [], ◌∷◌, ◌++◌}
 use Prim.Native.Nat.{ℕ, ◌+◌, ◌-◌, ◌*◌, ◌≤◌, ◌<◌}
 use native.Mathlib.Omega.{arith}
@@ -46,11 +46,13 @@ module _ {s₀ : List ℕ} {from : Contents} {to : Ends} {m n : ℕ} (p : BothPl
 -- so many notes are left, and so many cells that each half's parts look at
 pub record Noting (s₀ s : List ℕ) (h : Header) (a b : Half) (from : Contents) (to : Ends) (at : Cursors) (left : ℕ) : Type 0 where
   pub notes_few : left ≤ from.notes.left
-  pub closings_few : at.closings ≤ from.cells.left
-  pub order : at.openings ≤ at.closings
+  pub closings_end : at.closings.end ≡ from.cells.end
+  pub openings_end : at.openings.end ≡ from.cells.end
+  pub closings_few : at.closings.left ≤ from.cells.left
+  pub order : at.openings.left ≤ at.closings.left
   pub writes : BothWrites s₀ s to at.to (gather note_words (notes_left h a s₀ from from.notes.left from.cells.left))
-      (gather note_words (notes_left h b s₀ from from.notes.left from.cells.left)) (gather note_words (notes_left h a s₀ from left at.closings))
-      (gather note_words (notes_left h b s₀ from left at.openings))
+      (gather note_words (notes_left h b s₀ from from.notes.left from.cells.left)) (gather note_words (notes_left h a s₀ from left at.closings.left))
+      (gather note_words (notes_left h b s₀ from left at.openings.left))
 
 -- one half's notes, from the first of those that are left on
 module _ (s₀ : List ℕ) (h : Header) (v : Half) (ok : HalfOk h.delta v) (from : Contents) (left : ℕ) (n : Note)
@@ -81,16 +83,19 @@ no_words : (s : List ℕ) (h : Header) (v : Half) (from : Contents) (cells : ℕ
 unfolding notes_left
 no_words s h v from cells = rw (no_notes s from.notes.end, no_parts h v (last_cells s from.cells.end cells))
 
-module _ {s₀ : List ℕ} {h : Header} {a b : Half} {from : Contents} {to : Ends} (q : NotesAsks s₀ h a b from to) where
+module _ {s₀ : List ℕ} {h : Header} {a b : Half} {from : Contents} {to : Ends} (left_ok : HalfOk h.delta a) (right_ok : HalfOk h.delta b)
+    (q : NotesAsks s₀ h a b from to) where
   lefts : length (gather note_words (notes_left h a s₀ from from.notes.left from.cells.left)) ≡ 4 * length (notes_left h a s₀ from from.notes.left from.cells.left)
   lefts = length-note_words (notes_left h a s₀ from from.notes.left from.cells.left)
 
   rights : length (gather note_words (notes_left h b s₀ from from.notes.left from.cells.left)) ≡ 4 * length (notes_left h b s₀ from from.notes.left from.cells.left)
   rights = length-note_words (notes_left h b s₀ from from.notes.left from.cells.left)
 
-  pub noting_start : Noting s₀ s₀ h a b from to (record { to = to; closings = from.cells.left; openings = from.cells.left }) from.notes.left
+  pub noting_start : Noting s₀ s₀ h a b from to (record { to = to; closings = from.cells; openings = from.cells }) from.notes.left
   noting_start = record {
     notes_few = omega arith;
+    closings_end = refl;
+    openings_end = refl;
     closings_few = omega arith;
     order = omega arith;
     writes = both-start s₀ to _ _ (rw (lefts, rights) q.placed.apart);
@@ -111,29 +116,30 @@ module _ {s₀ : List ℕ} {h : Header} {a b : Half} {from : Contents} {to : End
         first : last_notes s₀ from.notes.end left ≡ n ∷ last_notes s₀ from.notes.end (left - 1)
         first = rw (is ∙ note_was q.placed l.writes lefts rights left more l.notes_few) (last_notes_lem s₀ from.notes.end left more note-place)
 
-        closing_now : last_cells s from.cells.end at.closings ≡ last_cells s₀ from.cells.end at.closings
-        closing_now = cells_now at.closings l.closings_few
+        closing_now : last_cells s from.cells.end at.closings.left ≡ last_cells s₀ from.cells.end at.closings.left
+        closing_now = cells_now at.closings.left l.closings_few
 
-        opening_now : last_cells s from.cells.end at.openings ≡ last_cells s₀ from.cells.end at.openings
-        opening_now = cells_now at.openings (omega (arith, l.closings_few, l.order))
+        opening_now : last_cells s from.cells.end at.openings.left ≡ last_cells s₀ from.cells.end at.openings.left
+        opening_now = cells_now at.openings.left (omega (arith, l.closings_few, l.order))
 
-        left-fits : at.to.left + 4 * length (part_from h a n (last_cells s₀ from.cells.end at.closings)) ≤ to.left + 4 * length (notes_left h a s₀ from from.notes.left from.cells.left)
-        left-fits = omega (arith, l.writes.left-place, lefts, first_fits s₀ h a q.left_half from left n first at.closings)
+        left-fits : at.to.left + 4 * length (part_from h a n (last_cells s₀ from.cells.end at.closings.left)) ≤ to.left + 4 * length (notes_left h a s₀ from from.notes.left from.cells.left)
+        left-fits = omega (arith, l.writes.left-place, lefts, first_fits s₀ h a left_ok from left n first at.closings.left)
 
-        right-fits : at.to.right + 4 * length (part_from h b n (last_cells s₀ from.cells.end at.openings)) ≤ to.right + 4 * length (notes_left h b s₀ from from.notes.left from.cells.left)
-        right-fits = omega (arith, l.writes.right-place, rights, first_fits s₀ h b q.right_half from left n first at.openings)
+        right-fits : at.to.right + 4 * length (part_from h b n (last_cells s₀ from.cells.end at.openings.left)) ≤ to.right + 4 * length (notes_left h b s₀ from from.notes.left from.cells.left)
+        right-fits = omega (arith, l.writes.right-place, rights, first_fits s₀ h b right_ok from left n first at.openings.left)
 
-        cells-apart : Apart (from.cells.end - 6 * at.openings) (6 * at.openings) at.to.left (4 * length (part_from h a n (last_cells s₀ from.cells.end at.closings)))
+        cells-apart : Apart (from.cells.end - 6 * at.openings.left) (6 * at.openings.left) at.to.left (4 * length (part_from h a n (last_cells s₀ from.cells.end at.closings.left)))
         cells-apart =
             apart_swap
-            (apart-within (from.cells.end - 6 * at.openings) (6 * at.openings)
-            (apart_swap (apart-within at.to.left (4 * length (part_from h a n (last_cells s₀ from.cells.end at.closings))) q.placed.left-from l.writes.left_low left-fits))
+            (apart-within (from.cells.end - 6 * at.openings.left) (6 * at.openings.left)
+            (apart_swap (apart-within at.to.left (4 * length (part_from h a n (last_cells s₀ from.cells.end at.closings.left))) q.placed.left-from l.writes.left_low left-fits))
             (omega (arith, q.placed.cells_in, l.closings_few, l.order))
             (omega (arith, q.placed.cells_in, l.closings_few, l.order)))
 
-        pub parts_asks : PartsAsks s h a b n from.cells.end at
-        parts_asks = record {
-          sides = q.sides;
+        at_end : PartsAsks s h a b n from.cells.end at
+        at_end = record {
+          closings_end = l.closings_end;
+          openings_end = l.openings_end;
           closings_in = omega (arith, q.placed.cells_in, l.closings_few);
           order = l.order;
           inside = inside;
@@ -142,23 +148,29 @@ module _ {s₀ : List ℕ} {h : Header} {a b : Half} {from : Contents} {to : End
           apart = rw closing_now cells-apart;
         }
 
-        pub noting_note : {t : List ℕ} {r : Cursors} → PartsPut s h a b n from.cells.end at t r → Noting s₀ t h a b from to r (left - 1)
-        noting_note {t} {r} m =
-            let few-closings : r.closings ≤ from.cells.left = omega (arith, m.closings_few, l.closings_few) in
-            let few-openings : r.openings ≤ from.cells.left = omega (arith, m.order, few-closings) in
-            let closed : last_cells s₀ from.cells.end r.closings ≡ passed a n (last_cells s₀ from.cells.end at.closings) =
-            sym (cells_now r.closings few-closings) ∙ m.closings_are ∙ ap (passed a n) closing_now in
-            let opened : last_cells s₀ from.cells.end r.openings ≡ passed b n (last_cells s₀ from.cells.end at.openings) =
-            sym (cells_now r.openings few-openings) ∙ m.openings_are ∙ ap (passed b n) opening_now in
+        pub parts_asks : PartsAsks s h a b n at.closings.end at
+        parts_asks = subst (λ e. PartsAsks s h a b n e at) (sym l.closings_end) at_end
+
+        pub noting_note : {t : List ℕ} {r : Cursors} → PartsPut s h a b n at.closings.end at t r → Noting s₀ t h a b from to r (left - 1)
+        noting_note {t} {r} put =
+            let m : PartsPut s h a b n from.cells.end at t r = subst (λ e. PartsPut s h a b n e at t r) l.closings_end put in
+            let few-closings : r.closings.left ≤ from.cells.left = omega (arith, m.closings_few, l.closings_few) in
+            let few-openings : r.openings.left ≤ from.cells.left = omega (arith, m.order, few-closings) in
+            let closed : last_cells s₀ from.cells.end r.closings.left ≡ passed a n (last_cells s₀ from.cells.end at.closings.left) =
+            sym (cells_now r.closings.left few-closings) ∙ m.closings_are ∙ ap (passed a n) closing_now in
+            let opened : last_cells s₀ from.cells.end r.openings.left ≡ passed b n (last_cells s₀ from.cells.end at.openings.left) =
+            sym (cells_now r.openings.left few-openings) ∙ m.openings_are ∙ ap (passed b n) opening_now in
             record {
               notes_few = omega (arith, l.notes_few);
+              closings_end = m.closings_end;
+              openings_end = m.openings_end;
               closings_few = few-closings;
               order = m.order;
               writes =
                   both_turn
                   (rw (
-                    words_from s₀ h a q.left_half from left n first at.closings r.closings closed,
-                    words_from s₀ h b q.right_half from left n first at.openings r.openings opened,
+                    words_from s₀ h a left_ok from left n first at.closings.left r.closings.left closed,
+                    words_from s₀ h b right_ok from left n first at.openings.left r.openings.left opened,
                   ) at l.writes)
                   (rw (closing_now, opening_now) at m.put);
             }
@@ -167,7 +179,7 @@ module _ {s₀ : List ℕ} {h : Header} {a b : Half} {from : Contents} {to : End
         → BothPut s₀ to (gather note_words (notes_left h a s₀ from from.notes.left from.cells.left)) (gather note_words (notes_left h b s₀ from from.notes.left from.cells.left)) s at.to
     notes-done over =
         let zero_left : left ≡ 0 = omega arith in
-        both-done (rw (zero_left, no_words s₀ h a from at.closings, no_words s₀ h b from at.openings) at l.writes)
+        both-done (rw (zero_left, no_words s₀ h a from at.closings.left, no_words s₀ h b from at.openings.left) at l.writes)
 
 -- ---- the pass over the cells
 

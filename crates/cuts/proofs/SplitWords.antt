@@ -89,9 +89,6 @@ module _ {s : List ℕ} {h : Header} {a b : Half} {i j k : ℕ} (q : BothAsks s 
 
     pub notes_asks : NotesAsks s h a b from (record { left = l + 3; right = m + 3 })
     notes_asks = record {
-      sides = q.sides;
-      left_half = la.half;
-      right_half = ra.half;
       placed =
           both-placed s refl (record { left = l + 3; right = m + 3 }) _ _ (omega arith) (omega (arith, ap length (notes_left_lem la r), room la)) (omega arith)
           (omega (arith, ap length (notes_left_lem ra right_read), room ra));

@@ -14,7 +14,7 @@ use Rattle.cuts.specs.declared.halves.Contents.{Contents}
 use Rattle.cuts.specs.declared.halves.Ends.{Ends}
 use Rattle.cuts.specs.declared.halves.CellPlace.{CellPlace}
 use Rattle.cuts.specs.declared.halves.Cursors.{Cursors}
-use Rattle.cuts.specs.Halving.{is_right, HalfOk, HalfAsks, passed, note_part, notes_left}
+use Rattle.cuts.specs.Halving.{is_right, HalfAsks, passed, note_part, notes_left}
 
 -- ---- words written from two places on
 
@@ -54,28 +54,28 @@ part_from h v n cs = note_part h v n (passed v n cs)
 
 -- Room for a note's parts, and cells to look at, apart from the left part.
 pub record PartsAsks (s : List ℕ) (h : Header) (a b : Half) (n : Note) (end : ℕ) (at : Cursors) : Type 0 where
-  pub sides : Sides a b
-  pub closings_in : 6 * at.closings ≤ end
-  pub order : at.openings ≤ at.closings
+  pub closings_end : at.closings.end ≡ end
+  pub openings_end : at.openings.end ≡ end
+  pub closings_in : 6 * at.closings.left ≤ end
+  pub order : at.openings.left ≤ at.closings.left
   pub inside : end ≤ length s
-  pub left-room : at.to.left + 4 * length (part_from h a n (last_cells s end at.closings)) ≤ length s
-  pub right-room : at.to.right + 4 * length (part_from h b n (last_cells s end at.openings)) ≤ length s
-  pub apart : Apart (end - 6 * at.openings) (6 * at.openings) at.to.left (4 * length (part_from h a n (last_cells s end at.closings)))
+  pub left-room : at.to.left + 4 * length (part_from h a n (last_cells s end at.closings.left)) ≤ length s
+  pub right-room : at.to.right + 4 * length (part_from h b n (last_cells s end at.openings.left)) ≤ length s
+  pub apart : Apart (end - 6 * at.openings.left) (6 * at.openings.left) at.to.left (4 * length (part_from h a n (last_cells s end at.closings.left)))
 
 -- Both parts written, and the cells that the note leaves to those behind it.
 pub record PartsPut (s : List ℕ) (h : Header) (a b : Half) (n : Note) (end : ℕ) (at : Cursors) (t : List ℕ) (r : Cursors) : Type 0 where
-  pub closings_are : last_cells s end r.closings ≡ passed a n (last_cells s end at.closings)
-  pub closings_few : r.closings ≤ at.closings
-  pub openings_are : last_cells s end r.openings ≡ passed b n (last_cells s end at.openings)
-  pub openings_few : r.openings ≤ at.openings
-  pub order : r.openings ≤ r.closings
-  pub put : BothPut s at.to (gather note_words (part_from h a n (last_cells s end at.closings)))
-      (gather note_words (part_from h b n (last_cells s end at.openings))) t r.to
+  pub closings_end : r.closings.end ≡ end
+  pub openings_end : r.openings.end ≡ end
+  pub closings_are : last_cells s end r.closings.left ≡ passed a n (last_cells s end at.closings.left)
+  pub closings_few : r.closings.left ≤ at.closings.left
+  pub openings_are : last_cells s end r.openings.left ≡ passed b n (last_cells s end at.openings.left)
+  pub openings_few : r.openings.left ≤ at.openings.left
+  pub order : r.openings.left ≤ r.closings.left
+  pub put : BothPut s at.to (gather note_words (part_from h a n (last_cells s end at.closings.left)))
+      (gather note_words (part_from h b n (last_cells s end at.openings.left))) t r.to
 
 pub record NotesAsks (s : List ℕ) (h : Header) (a b : Half) (from : Contents) (to : Ends) : Type 0 where
-  pub sides : Sides a b
-  pub left_half : HalfOk h.delta a
-  pub right_half : HalfOk h.delta b
   pub placed : BothPlaced s from to (4 * length (notes_left h a s from from.notes.left from.cells.left)) (4 * length (notes_left h b s from from.notes.left from.cells.left))
 
 -- ---- cells

@@ -10,8 +10,8 @@ ghost use Rattle.laws.specs.Cutting.{closing_cell, first_cell};
 ghost use Rattle.session.specs.Framing.{framed};
 ghost use Rattle.session.specs.Reading.{last_cells};
 ghost use Rattle.session.specs.Sliced.{cells_of};
-ghost use Rattle.cuts.specs.Halving.{left_half, right_half, half_of, line_cell, crossed_note, across_parts, max_session, contents_by, contents_at, notes_left, Noted};
-ghost use Rattle.cuts.specs.BothHalves.{max_place, cell_place, left_cell, right_cell, left_cells, right_cells, BothPut, PartsAsks, PartsPut, NotesAsks, CellsAsks, CountsAsks, BothAsks};
+ghost use Rattle.cuts.specs.Halving.{HalfOk, left_half, right_half, half_of, line_cell, crossed_note, across_parts, max_session, contents_by, contents_at, notes_left, Noted};
+ghost use Rattle.cuts.specs.BothHalves.{max_place, cell_place, left_cell, right_cell, left_cells, right_cells, BothPut, Sides, PartsAsks, PartsPut, NotesAsks, CellsAsks, CountsAsks, BothAsks};
 
 use crate::lasts::{Last, LastCells, LastNotes};
 use model::{Cell, Header, Note};
@@ -181,41 +181,40 @@ pub struct Ends {
     pub right: usize,
 }
 
-// Where each half's next note goes, and how many cells, up to the same place, are left among which the left half's closing cells on the line
-// are looked for, and the right half's opening cells.
+// Where each half's next note goes, and the cells, up to the same place, among which the left half's closing cells on the line are looked
+// for, and the right half's opening cells.
 #[derive(Drop)]
 pub struct Cursors {
     pub to: Ends,
-    pub closings: usize,
-    pub openings: usize,
+    pub closings: LastCells,
+    pub openings: LastCells,
+}
+
+// A split: both halves of a take in a session with this header.
+#[derive(Clone, Copy)]
+pub struct Split {
+    pub h: Header,
+    pub before: Half,
+    pub behind: Half,
+    ghost sides: { Sides before behind },
+    ghost before_ok: { HalfOk h.delta before },
+    ghost behind_ok: { HalfOk h.delta behind },
 }
 
 // Both halves' parts of a note that crosses the line. The search for the opening cell goes on where the closing cell was found.
-fn put_crossed(
-    s: &mut [u32],
-    h: Header,
-    before: Half,
-    behind: Half,
-    n: Note,
-    end: usize,
-    at: Cursors,
-) -> Cursors
-    requires { PartsAsks s.old h before behind n end at × (before.line < n.end) × (n.start < before.line) }
-    ensures { PartsPut s.old h before behind n end at s.new result }
+fn put_crossed(s: &mut [u32], split: Split, n: Note, at: Cursors) -> Cursors
+    requires { PartsAsks s.old split.h split.before split.behind n at.closings.end at × (split.before.line < n.end) × (n.start < split.before.line) }
+    ensures { PartsPut s.old split.h split.before split.behind n at.closings.end at s.new result }
 {
-    let closings = clear::cells_from(s, end, at.closings, n.lane, before.edge);
-    let ahead = closings.min(at.openings);
-    let openings = clear::cells_from(s, end, ahead, n.lane, behind.edge);
-    let closing = Last {
-        end,
-        left: closings,
-    };
-    let opening = Last {
-        end,
-        left: openings,
-    };
-    let left = put_across(s, at.to.left, h, before, n, closing);
-    let right = put_across(s, at.to.right, h, behind, n, opening);
+    let Split { h, before, behind } = split;
+    let end = at.closings.end;
+    let closing = clear::cells_from(s, end, at.closings.left, n.lane, before.edge);
+    let ahead = closing.min(at.openings.left);
+    let opening = clear::cells_from(s, end, ahead, n.lane, behind.edge);
+    let closings = at.closings.keep(closing);
+    let openings = at.openings.keep(opening);
+    let left = put_across(s, at.to.left, h, before, n, closings);
+    let right = put_across(s, at.to.right, h, behind, n, openings);
     Cursors {
         to: Ends { left, right },
         closings,
@@ -224,19 +223,11 @@ fn put_crossed(
 }
 
 // Both halves' parts of a note: all of it to the one or to the other, or a part to each.
-fn put_parts(
-    s: &mut [u32],
-    h: Header,
-    before: Half,
-    behind: Half,
-    n: Note,
-    end: usize,
-    at: Cursors,
-) -> Cursors
-    requires { PartsAsks s.old h before behind n end at }
-    ensures { PartsPut s.old h before behind n end at s.new result }
+fn put_parts(s: &mut [u32], split: Split, n: Note, at: Cursors) -> Cursors
+    requires { PartsAsks s.old split.h split.before split.behind n at.closings.end at }
+    ensures { PartsPut s.old split.h split.before split.behind n at.closings.end at s.new result }
 {
-    let line = before.line;
+    let line = split.before.line;
     if n.end <= line {
         words::put(s, at.to.left, n.into());
         let to = Ends {
@@ -258,22 +249,22 @@ fn put_parts(
         };
         return Cursors { to, ..at };
     }
-    put_crossed(s, h, before, behind, n, end, at)
+    put_crossed(s, split, n, at)
 }
 
 // Both halves' parts of a shelf's notes, in one pass over its notes and cells. Returns the places behind them.
-fn put_notes(s: &mut [u32], h: Header, before: Half, behind: Half, from: Contents, to: Ends) -> Ends
-    requires { NotesAsks s.old h before behind from to }
-    ensures { BothPut s.old to (gather note_words (notes_left h before s.old from from.notes.left from.cells.left)) (gather note_words (notes_left h behind s.old from from.notes.left from.cells.left)) s.new result }
+fn put_notes(s: &mut [u32], split: Split, from: Contents, to: Ends) -> Ends
+    requires { NotesAsks s.old split.h split.before split.behind from to }
+    ensures { BothPut s.old to (gather note_words (notes_left split.h split.before s.old from from.notes.left from.cells.left)) (gather note_words (notes_left split.h split.behind s.old from from.notes.left from.cells.left)) s.new result }
 {
     let mut at = Cursors {
         to,
-        closings: from.cells.left,
-        openings: from.cells.left,
+        closings: from.cells,
+        openings: from.cells,
     };
     for left in (1..=from.notes.left).rev() {
         let n = notes::note_at(s, from.notes.end - 4 * left);
-        at = put_parts(s, h, before, behind, n, from.cells.end, at);
+        at = put_parts(s, split, n, at);
     }
     at.to
 }
@@ -377,7 +368,8 @@ pub fn put_both(
         left: l + 3,
         right: r + 3,
     };
-    let middle = put_notes(s, h, before, behind, from, first);
+    let split = Split { h, before, behind };
+    let middle = put_notes(s, split, from, first);
     let end = put_cells(s, before.beat, from, middle);
     put_counts(s, l, h.words, before.beats, middle.left, end.left);
     put_counts(s, r, h.words, behind.beats, middle.right, end.right);

@@ -4,13 +4,13 @@ use Rattle.cuts.proofs.BothPasses.{noting_start, parts_asks, noting_note, notes-
 use Rattle.cuts.proofs.halves.put_notes.Goals as goal
 
 pub loop-left-init : goal.loop-left-init
-loop-left-init c = noting_start c.requires
+loop-left-init c = noting_start c.args.split.before_ok c.args.split.behind_ok c.requires
 
 pub put_parts-at-requires : goal.put_parts-at-requires
-put_parts-at-requires c = parts_asks c.requires c.loop-left.invariant c.loop-left-test.true c.note_at-n.ensures
+put_parts-at-requires c = parts_asks c.args.split.before_ok c.args.split.behind_ok c.requires c.loop-left.invariant c.loop-left-test.true c.note_at-n.ensures
 
 pub loop-left-preserved : goal.loop-left-preserved
-loop-left-preserved c = noting_note c.requires c.loop-left.invariant c.loop-left-test.true c.note_at-n.ensures c.put_parts-at.ensures
+loop-left-preserved c = noting_note c.args.split.before_ok c.args.split.behind_ok c.requires c.loop-left.invariant c.loop-left-test.true c.note_at-n.ensures c.put_parts-at.ensures
 
 pub returns : goal.returns
-returns c = notes-done c.requires c.loop-left.invariant (omega (arith, c.loop-left-test.false))
+returns c = notes-done c.args.split.before_ok c.args.split.behind_ok c.requires c.loop-left.invariant (omega (arith, c.loop-left-test.false))
