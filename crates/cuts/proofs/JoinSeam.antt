@@ -46,7 +46,7 @@ module _ {A : Type 0} (lane : A → ℕ) (l : ℕ) where
   ahead_none = refl
 
   module _ (x : A) (xs : List A) where
-    pub ahead-first : lane_ahead lane (x ∷ xs) ≡ lane x
+    ahead-first : lane_ahead lane (x ∷ xs) ≡ lane x
     unfolding lane_ahead
     ahead-first = refl
 
@@ -338,7 +338,7 @@ note_lane s end k fits = go (eqb k 0) refl
     go true e = no_note-ahead s end k (eqb-true k 0 e)
     go false e = note-ahead s end k (omega (arith, eqb-false k 0 e)) fits refl
 
-pub cell_lane : (s : List ℕ) (end k : ℕ) → 6 * k ≤ end → lane_of_last 6 s end k ≡ lane_ahead (λ c. c.lane) (last_cells s end k)
+cell_lane : (s : List ℕ) (end k : ℕ) → 6 * k ≤ end → lane_of_last 6 s end k ≡ lane_ahead (λ c. c.lane) (last_cells s end k)
 unfolding lane_of_last cell_at
 cell_lane s end k fits = go (eqb k 0) refl
   where

@@ -11,8 +11,7 @@ use model::{Cell, Header, Note};
 use session::{notes, rules};
 
 // The notes of a lane in front of the last notes, so many ticks later. Returns those that are left.
-// One generic function for this, joined::put_lower and behind_cell_run is no plainer: it would take three closures, for reading, the test and the
-// words.
+// One generic function for this, behind_cell_run and joined::put_lower is no plainer: it would take closures for reading, the test and the words.
 pub fn put_note_run(s: &mut [u32], to: usize, lane: u32, ticks: u32, notes: LastNotes) -> LastNotes
     requires { NoteRunAsks s.old to lane ticks notes.end notes.left }
     ensures put { NoteRunPut s.old to lane ticks notes.end notes.left s.new result.left }
