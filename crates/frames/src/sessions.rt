@@ -1,5 +1,5 @@
 // The session that the program keeps.
-ghost use Rattle.std.specs.Prelude.{◌≡◌, ◌≤◌, length};
+ghost use Rattle.std.specs.Prelude.{◌≤◌, length};
 ghost use Rattle.frames.specs.Lines.{open_of, change_of};
 ghost use Rattle.frames.specs.Calling.{Changed};
 
