@@ -159,10 +159,8 @@ pub fn seam_over(
         held: rules::stands_alone(h, c),
         skipped: rules::stands_alone(h, d),
         note: Note {
-            lane: n.lane,
-            start: n.start,
             end: m.end + line,
-            velocity: n.velocity,
+            ..n
         },
     }
 }

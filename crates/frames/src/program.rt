@@ -55,6 +55,7 @@ impl Progress<OUT_BYTES> {
     {
         let mut sent = 0;
         let mut left = block;
+        // No `for`: each turn takes as many bytes as there is room for answers to.
         while !left.is_empty() {
             sent += self.make_room(to);
             let taken = self.read_on(left);

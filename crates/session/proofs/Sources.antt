@@ -1,6 +1,5 @@
 -- A shelf that a call reads: it lies inside the session, and what its soundness asks. Assumes nothing.
-use mathlib.Core.Path.{◌≡◌, ap, ◌∙◌}
-use mathlib.Core.Bool.{Bool}
+use mathlib.Core.Path.{◌≡◌}
 use mathlib.Core.List.{List}
 use Prim.Native.Nat.{ℕ, ◌+◌, ◌-◌, ◌≤◌, ◌<◌}
 use native.Mathlib.Nat.{add-zero, suc-mul, mul-le-mul_right}
@@ -8,10 +7,9 @@ use native.Mathlib.Omega.{arith}
 use lib.ListN.{length, get_or, take, drop}
 use lib.Seq.{get_or-drop, get_or-take}
 use Rattle.words.specs.Parts.{length_part}
-use Rattle.model.specs.Limits.{max_delta, max_shelves, max_words, min_words}
+use Rattle.model.specs.Limits.{max_shelves, max_words}
 use Rattle.model.specs.Session.{shelf, shelf_at}
 use Rattle.model.specs.Questions.{take_at}
-use Rattle.model.specs.Soundness.{sound_shelf}
 use Rattle.model.specs.Takes.{take_in}
 use Rattle.model.specs.declared.Header.{Header}
 use Rattle.model.proofs.Headers.{InRange}
@@ -35,12 +33,6 @@ module _ (h : Header) (s : List ℕ) (i : ℕ) (range : InRange h (length s)) (b
 
   pub part_long : length (take (at + h.words - at) (drop at s)) ≡ h.words
   part_long = let w : at + h.words - at ≡ h.words = omega arith in rw w (length_part s at h.words (inside_session range below-K place))
-
-  pub sound_asks : (0 < h.delta) × (h.delta ≤ max_delta) × (h.epsilon ≤ h.delta) × (min_words ≤ h.words) × (length (take (at + h.words - at) (drop at s)) ≡ h.words)
-  sound_asks = (range.some-ticks, range.few_ticks, range.kept-within, range.large, part_long)
-
-  pub sound_is : {o : Bool} → o ≡ sound_shelf h (take (at + h.words - at) (drop at s)) → o ≡ sound_shelf h (shelf h s i)
-  sound_is e = e ∙ ap (sound_shelf h) part_is
 
   pub beats_is : get_or s at 0 ≡ (take_at h s i).beats
   unfolding take_in shelf
