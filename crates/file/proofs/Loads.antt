@@ -27,7 +27,7 @@ use Rattle.midi.proofs.Recordings.{track-sound, Sound}
 use Rattle.session.proofs.Entries.{Entered, granted_means, entry_refused}
 use Rattle.std.specs.Prelude.{Ok, Err}
 use Rattle.model.specs.Numbers.{number_of, answer_of}
-use Rattle.model.proofs.Numbers.{kept}
+use Rattle.model.proofs.Numbers.{kept, number_positive}
 use Rattle.model.specs.declared.questions.Question.{Question}
 use Rattle.model.specs.declared.questions.Question.TheVariants.{ResultFits}
 use Rattle.session.specs.Entering.{entry_asked}
@@ -164,12 +164,14 @@ module _ (s : List ℕ) (i : ℕ) (file : List ℕ) where
   unfolding load_number load_questions read_number
   load_is = rw (asked-first, asked-first)
 
+  loaded_refused : (q : ℕ) → load_number s i file ≡ q → 0 < q → Loaded s i file q s
+  unfolding load_after
+  loaded_refused zero e more = absurd (omega arith)
+  loaded_refused (suc q) e more = (sym e, rw (load_after, e))
+
   -- refused by question 1 or 2
   pub load_refused : (q : Question) → answer_of words_of_header (Err q) ≡ entry_asked s i → Loaded s i file (number_of q) s
-  unfolding load_after
-  load_refused q e =
-      let is : number_of q ≡ load_number s i file = entry_refused s i _ load_is q e in
-      (is, kept q (load_number s i file) is (loaded g s i (read_file g.delta file)) s)
+  load_refused q e = loaded_refused (number_of q) (sym (entry_refused s i _ load_is q e)) (number_positive q)
 
   -- questions 1 and 2 answered yes
   module _ {h : Header} (granted : answer_of words_of_header (Ok h) ≡ entry_asked s i) where
