@@ -1,32 +1,32 @@
 -- Question 8 of a join: the pairs of cells over the line, counted lane by lane by one walk over both takes' cells. Assumes nothing.
 use mathlib.Core.Path.{◌≡◌, refl, sym, ap, ◌∙◌}
-use mathlib.Core.Bool.{Bool, true, false, cond, not}
+use mathlib.Core.Bool.{Bool, true, false, not}
 use mathlib.Core.List.{List, [], ◌∷◌, ◌++◌}
 use Prim.Native.Nat.{ℕ, suc, ◌+◌, ◌-◌, ◌*◌, ◌≤◌, ◌<◌, min}
 use native.Mathlib.Omega.{arith}
 use borrow.Author.Tests.{eqb-true, eqb-false, leb-true, leb-false, not-true, not-false}
 use lib.Dec.{eqb, leb}
-use lib.ListN.{length, length-append, take}
-use Rattle.std.specs.Prelude.{Some, None}
-use Rattle.std.specs.List.{slice_get, take-map}
+use lib.ListN.{length, length-append, take, drop}
+use Rattle.std.specs.Prelude.{Option, Some, None, MatchOption}
+use Rattle.std.specs.List.{slice_get, AllWithin, HoldsAt, take-map, drop-map}
 use Rattle.std.specs.Option.{unwrap_or}
+use Rattle.std.proofs.lemmas.Iterator.{index_from_first}
 use Rattle.std.proofs.lemmas.List.{length-map}
 use Rattle.std.proofs.lemmas.Option.{none-some, slice_get-get_or}
-use Rattle.std.proofs.Math.Seq.{take-append_seam}
+use Rattle.std.proofs.Math.Seq.{take-append_seam, drop-append_seam}
 use Rattle.model.specs.Binding.{stands_alone}
 use Rattle.model.specs.Limits.{max_words}
 use Rattle.model.specs.declared.Cell.{Cell}
 use Rattle.model.specs.declared.Header.{Header}
 use Rattle.laws.specs.JoinCount.{seams, seams_over, seams_step, lone-append, lone_few}
-use Rattle.laws.specs.JoinWalk.{From, cell_rest, cell_run, from-ahead, lane_ahead, rest_from, rest_of, run-rest}
+use Rattle.laws.specs.JoinWalk.{From, cell_rest, cell_run, from-ahead, lane_ahead, rest_from, run-rest}
 use Rattle.laws.specs.Seam.{bound_at, lone, one, seam_of}
 use Rattle.laws.specs.SeamWalk.{last_or}
 use Rattle.session.specs.Reading.{cell_at}
-use Rattle.session.specs.Running.{from_first}
 use Rattle.session.specs.Sliced.{cells_of}
 use Rattle.cuts.specs.declared.counting.SeamCount.{SeamCount}
 use Rattle.cuts.specs.Counting.{count_of, pair_at}
-use Rattle.cuts.proofs.JoinSeam.{nothing, run_go}
+use Rattle.cuts.proofs.JoinSeam.{nothing, run_go, run_none, run_stop}
 
 abbrev none : SeamCount
 none = record { pairs = 0; alone = 0 }
@@ -55,19 +55,27 @@ module _ (h : Header) (k : ℕ) (c d : Cell) {b : Bool} (is : b ≡ bound_at h k
 
 -- ---- the cells of a lane
 
+-- the words of a cell of another lane, and of one of the lane
+abbrev pub Other : ℕ → List ℕ → Type 0
+Other lane w = (cell_at w 0).lane ≡ lane → ⊥
+
+abbrev pub Own : ℕ → List ℕ → Type 0
+Own lane w = (cell_at w 0).lane ≡ lane
+
 module _ (lane : ℕ) where
   -- the first cell of another lane stands behind those of the lane
-  pub rest_first : (cs : List Cell) → from_first (λ c ds. not (eqb c.lane lane)) cs ≡ cell_rest lane cs
-  unfolding rest_of
-  rest_first [] = refl
-  rest_first (c ∷ cs) = go (eqb c.lane lane) (rest_first cs)
-    where
-      go : (t : Bool) → from_first (λ c ds. not (eqb c.lane lane)) cs ≡ cell_rest lane cs
-          → ◌≡◌ {A = List Cell} (elim (not t) [ true ↦ c ∷ cs | false ↦ from_first (λ c ds. not (eqb c.lane lane)) cs ]) (cond t (cell_rest lane cs) (c ∷ cs))
-      go true ih = ih
-      go false ih = refl
+  pub run_ends : (ws : List (List ℕ)) (r : Option ℕ)
+      → MatchOption r (AllWithin (Own lane) ws 0 (length ws)) (λ i. (i < length ws) × HoldsAt (Other lane) ws i × AllWithin (Own lane) ws 0 i)
+      → unwrap_or r (length ws) ≡ length (cell_run lane (cells_of ws))
+  run_ends ws r first =
+      sym (
+      index_from_first (λ vs. length (cell_run lane (cells_of vs))) (Other lane) (Own lane) (ap length (run_none (λ c. c.lane) lane))
+      (λ v vs d. ap length (run_stop (λ c. c.lane) lane (cell_at v 0) (cells_of vs) d))
+      (λ v vs e. omega (arith, ap length (run_go (λ c. c.lane) lane (cell_at v 0) (cells_of vs) e)))
+      ws r first
+      )
 
-  module _ (ws : List (List ℕ)) where
+  module _ (ws : List (List ℕ)) {n : ℕ} (is : n ≡ length (cell_run lane (cells_of ws))) where
     abbrev run : List Cell
     run = cell_run lane (cells_of ws)
 
@@ -77,17 +85,14 @@ module _ (lane : ℕ) where
     both : run ++ rest ≡ cells_of ws
     both = run-rest (λ c. c.lane) lane (cells_of ws)
 
-  module _ (ws vs : List (List ℕ)) (is : cells_of vs ≡ rest ws) where
-    -- so many cells stand in front of the rest
-    pub run_counted : length (run ws) + length vs ≡ length ws
-    run_counted =
-        omega (arith, ap length (both ws), length-append (run ws) (rest ws), ap length is, length-map vs (λ w. cell_at w 0), length-map ws (λ w. cell_at w 0))
+    pub run_inside : n ≤ length ws
+    run_inside = omega (arith, is, ap length both, length-append run rest, length-map ws (λ w. cell_at w 0))
 
-    pub run_taken : cells_of (take (length ws - length vs) ws) ≡ run ws
-    run_taken =
-        let count : length ws - length vs ≡ length (run ws) = omega (arith, run_counted) in
-        sym (take-map (λ w. cell_at w 0) (length ws - length vs) ws) ∙ ap (take (length ws - length vs)) (sym (both ws))
-        ∙ ap (λ (i : ℕ). take i (run ws ++ rest ws)) count ∙ take-append_seam (run ws) (rest ws)
+    pub run_taken : cells_of (take n ws) ≡ run
+    run_taken = sym (take-map (λ w. cell_at w 0) n ws) ∙ ap (take n) (sym both) ∙ ap (λ (i : ℕ). take i (run ++ rest)) is ∙ take-append_seam run rest
+
+    pub run_dropped : cells_of (drop n ws) ≡ rest
+    run_dropped = sym (drop-map (λ w. cell_at w 0) n ws) ∙ ap (drop n) (sym both) ∙ ap (λ (i : ℕ). drop i (run ++ rest)) is ∙ drop-append_seam run rest
 
 -- ---- the pair of a lane
 

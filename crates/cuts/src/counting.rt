@@ -12,7 +12,7 @@ ghost use Rattle.cuts.specs.Counting.{count_of, pair_at, SeamsAsks, CountsAsks, 
 use crate::halves::Contents;
 use crate::{halves, joined, seam};
 use model::{Cell, Header};
-use session::slices::{self, CellWords};
+use session::slices::CellWords;
 use session::view::SessionView;
 use session::{notes, rules};
 
@@ -40,11 +40,12 @@ fn pair_count(h: Header, beats: u32, c: Cell, d: Cell) -> SeamCount
     }
 }
 
-// The cells behind those of a lane in front. No `position`: its count beside the place made the walk a quarter slower.
-fn behind_run(cells: &[CellWords], lane: u32) -> &[CellWords]
-    ensures { cells_of result.now ≡ cell_rest lane (cells_of cells.now) }
+// So many cells of a lane are in front.
+fn count_run(cells: &[CellWords], lane: u32) -> usize
+    ensures { result ≡ length (cell_run lane (cells_of cells.now)) }
 {
-    slices::from_first(cells, |c, _| c.lane != lane)
+    let other = cells.iter().position(|words| words[0] != lane);
+    other.unwrap_or(cells.len())
 }
 
 // The cells of a lane in front, and those behind them.
@@ -52,9 +53,7 @@ fn lane_run(cells: &[CellWords], lane: u32) -> (&[CellWords], &[CellWords])
     ensures run { cells_of result.0.now ≡ cell_run lane (cells_of cells.now) }
     ensures rest { cells_of result.1.now ≡ cell_rest lane (cells_of cells.now) }
 {
-    let behind = behind_run(cells, lane);
-    let (run, _) = cells.split_at(cells.len() - behind.len());
-    (run, behind)
+    cells.split_at(count_run(cells, lane))
 }
 
 // The pair of a lane's cells: the last of the first take's and the first of the second's, if they are bound over the line.

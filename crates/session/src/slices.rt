@@ -24,7 +24,7 @@ pub(crate) fn first_cell(cells: &[CellWords]) -> Option<(Cell, &[CellWords])>
 }
 
 // The cells from the first one on at which the test holds, or none. The test is given a cell and those behind it.
-pub fn from_first<'a, F: Fn(Cell, &'a [CellWords]) -> bool>(
+pub(crate) fn from_first<'a, F: Fn(Cell, &'a [CellWords]) -> bool>(
     cells: &'a [CellWords],
     test: F,
 ) -> &'a [CellWords]
