@@ -28,6 +28,9 @@ fn put_cell(s: &mut [u32], at: usize, n: Note, beat: u32, side: u32, line: u32)
     words::put(s, at, c.into());
 }
 
+// That the note lies about the line is asked here and found out below by the tests: each function knows another half of it, so that a type with both
+// would ask more.
+
 // The cell on the opening line of a note's first beat, if the note starts there. Returns the place behind it.
 fn put_first(s: &mut [u32], at: usize, n: Note, beat: u32, line: u32) -> usize
     requires { (at + 6 * length (touched_cells n beat 0 line) ≤ length s.old) × (line ≤ n.end) }
@@ -91,8 +94,8 @@ fn put_note(s: &mut [u32], at: usize, by: Divisor, n: Note) -> usize
     put_lines(s, to, by.delta, n, first, line + by.delta)
 }
 
-// The cells of `count` notes that stand from place `at` on, written behind them. Returns the place behind the cells. A place and a count, no slice: the
-// notes stand in the session that is written.
+// The cells of `count` notes that stand from place `at` on, written behind them. Returns the place behind the cells. A place and a count, no slice:
+// the notes stand in the session that is written.
 pub fn put_cells(s: &mut [u32], at: usize, count: usize, delta: u32) -> usize
     requires { CellsAsks s.old at count delta }
     ensures { Made s.old (at + 4 * count) (cells_at delta s.old at count) s.new result }

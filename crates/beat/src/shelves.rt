@@ -14,7 +14,7 @@ pub fn shelves_ok(h: Header, first: u32, second: u32, third: u32) -> bool
     first < h.shelves && second < h.shelves && third < h.shelves
 }
 
-// Question 4: is a shelf sound?
+// Question 4: is a shelf sound? A shelf is a word of the caller's, below K only behind question 2: a type for it would be made anew at each call.
 pub fn is_sound(s: SessionView, take: u32) -> bool
     requires { take < s.header.shelves }
     ensures { result ≡ sound_shelf s.entry.header (shelf s.entry.header s.entry.words.now take) }

@@ -12,7 +12,7 @@ use model::questions::Question;
 use session::header;
 use session::view::SessionView;
 
-// Question 3: are the three shelves different?
+// Question 3: are the three shelves different? They stand one by one, here and in a join, as the C interface names them.
 fn differ(take: u32, left: u32, right: u32) -> bool
     ensures { result ≡ (not (eqb left right) && (not (eqb left take) && not (eqb right take))) }
 {

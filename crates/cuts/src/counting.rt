@@ -1,5 +1,5 @@
 // Question 8 of a join: does its result fit a shelf? Its notes are counted from those of both takes and from the cells at the seam.
-ghost use Rattle.std.specs.Prelude.{◌≡◌, ◌+◌, ◌*◌, min, leb};
+ghost use Rattle.std.specs.Prelude.{◌≡◌, ◌+◌, ◌*◌, ◌≤◌, min, leb, length};
 ghost use Rattle.model.specs.Limits.{lane_count};
 ghost use Rattle.model.specs.Questions.{fits, take_at};
 ghost use Rattle.model.specs.Takes.{join_takes};
@@ -68,7 +68,8 @@ fn run_count(h: Header, beats: u32, first: &[CellWords], second: &[CellWords]) -
 
 // ---- all lanes
 
-// The lane of the first cell: 2,048 if there is none, a number above all lanes, so that the least lane of two takes is a minimum.
+// The lane of the first cell, as `Last::lane` of places: 2,048 if there is none, a number above all lanes, so that the least lane of two takes is a
+// minimum.
 fn lane_ahead(cells: &[CellWords]) -> u32
     ensures { result ≡ lane_ahead (λ c. c.lane) (cells_of cells.now) }
 {

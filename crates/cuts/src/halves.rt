@@ -192,7 +192,7 @@ pub struct Cursors {
 
 // A split: both halves of a take in a session with this header.
 #[derive(Clone, Copy)]
-pub struct Split {
+struct Split {
     pub h: Header,
     pub before: Half,
     pub behind: Half,

@@ -1,4 +1,5 @@
-// Two takes joined, written into another shelf of the session straight from their own notes and cells.
+// Two takes joined, written into another shelf of the session straight from their own notes and cells. The first and the second take stand one by one,
+// as in the definitions.
 ghost use Rattle.std.specs.Prelude.{◌≡◌, ◌<◌};
 ghost use Rattle.cuts.specs.Making.{Made};
 ghost use Rattle.words.specs.Splice.{splice};

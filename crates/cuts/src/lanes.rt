@@ -62,7 +62,8 @@ fn kept_notes(seam: Seam, count: usize) -> usize
     count
 }
 
-// The note that goes over the line, if one does, behind so many notes from place `to` on. Returns the place behind it.
+// The note that goes over the line, if one does, behind so many notes from place `to` on, which stand in the session that is written. Returns the
+// place behind it.
 fn put_seam(s: &mut [u32], to: usize, count: usize, seam: Option<Seam>) -> usize
     requires { (to + 4 * count ≤ length s.old) × (to + 4 * seam_end seam count ≤ length s.old) }
     ensures { SeamPut s.old to count seam s.new result }

@@ -17,6 +17,7 @@ pub fn put_note_run(s: &mut [u32], to: usize, lane: u32, ticks: u32, notes: Last
     ensures put { NoteRunPut s.old to lane ticks notes.end notes.left s.new result.left }
     ensures end_is { result.end ≡ notes.end }
 {
+    // The place moves on beside the loop, which counts the notes that are left.
     let mut at = to;
     for rest in (1..=notes.left).rev() {
         let n = notes::note_at(s, notes.end - 4 * rest);
@@ -34,7 +35,7 @@ pub fn put_note_run(s: &mut [u32], to: usize, lane: u32, ticks: u32, notes: Last
     notes.keep(0)
 }
 
-// The cells that are left behind those of a lane in front.
+// The cells that are left behind those of a lane in front: by places, as the session is written meanwhile; question 8 goes over slices.
 pub fn behind_cell_run(s: &[u32], cells: LastCells, lane: u32) -> LastCells
     requires { cells.end ≤ length s.now }
     ensures run { (last_cells s.now cells.end result.left ≡ cell_rest lane (last_cells s.now cells.end cells.left)) × (result.left ≤ cells.left) }
@@ -128,7 +129,7 @@ pub fn from_on(s: &[u32], h: Header, d: Cell, notes: LastNotes) -> Note
     starting(d)
 }
 
-// What happens at the seam of a lane where a note goes over the line.
+// What happens at the seam of a lane where a note goes over the line: two answers of a rule, one for each take, and a note.
 #[derive(Clone, Copy)]
 pub struct Seam {
     // Is the last of the first take's notes a part of it?

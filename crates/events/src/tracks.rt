@@ -1,5 +1,6 @@
 // The track of many notes: counted, and written, window by window in the order of the file.
-// The two loops stand apart as those of a window do. They count no index: a turn takes as many events as the next window holds.
+// The two loops stand apart as those of a window do. They count no index: a turn takes as many events as the next window holds. n lanes of tables
+// that are made once for any number of them.
 ghost use Rattle.std.specs.Prelude.{◌≡◌, ◌+◌, ◌≤◌, length};
 ghost use Rattle.words.specs.Splice.{splice};
 ghost use Rattle.events.specs.Tracks.{track_left, track_most, events_left, TrackAsks};

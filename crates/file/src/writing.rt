@@ -28,7 +28,8 @@ fn put_file(s: SessionView, take: u32, output: &mut [u8]) -> Result<usize, Quest
     files::put_shelf_file(s.header, part, output).ok_or(Question::FileFits)
 }
 
-// Writes a shelf's file to an output, and counts the file's bytes. Refuses with the first question that is answered no, and counts 0 then.
+// Writes a shelf's file to an output, and counts the file's bytes: into a lent place, as the C interface that these clauses are those of. Refuses
+// with the first question that is answered no, and counts 0 then.
 pub fn take_write(
     session: &[u32],
     shelf: u32,

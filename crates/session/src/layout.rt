@@ -21,7 +21,7 @@ fn joined(words: &[u32]) -> u32
     words.iter().fold(0, |all, word| all | *word)
 }
 
-// Are all words zeros? In blocks, so that many words are looked at in one step.
+// Are all words zeros? In blocks, so that many words are looked at in one step; what is left behind the last whole block is looked at too.
 fn are_zeros(words: &[u32]) -> bool
     ensures { result ≡ every (eqb 0) words.now }
 {

@@ -1,4 +1,6 @@
-// Reading a note and a cell, and the rules for one note of a list.
+// Reading a note and a cell, and the rules for one note of a list. δ and the beats are asked in range where products must fit, here and in the other
+// files: the definitions and other functions take any, and a type that says both would ask it of those too. Words are read one by one: an array of
+// them, for `From`, would be cut out first.
 ghost use Rattle.std.specs.Prelude.{◌≡◌, ◌+◌, ◌≤◌, length};
 ghost use Rattle.model.specs.Limits.{max_beats, max_delta, velocity_ok};
 ghost use Rattle.model.specs.Soundness.{note_ok, follows};

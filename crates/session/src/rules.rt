@@ -1,5 +1,6 @@
 // The rules for cells: their order, which stand alone, which are bound, where their pieces lie; and which notes touch no line.
-// They hold for any words: sums and products are of 64 bits.
+// They hold for any words: sums and products are of 64 bits. Cells, header, δ and beats stand one by one, in the order of the definitions: a cell with
+// its header is no thing of the paper.
 ghost use Rattle.std.specs.Prelude.{◌≡◌, ◌+◌, ◌*◌};
 ghost use Rattle.model.specs.Binding.{stands_alone, meet, none_alone, bound, fills, start_of, end_of};
 ghost use Rattle.model.specs.Pieces.{first_beat, inside};

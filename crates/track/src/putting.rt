@@ -64,8 +64,8 @@ pub fn put_event(out: &mut [u8], at: usize, time: u32, event: u64) -> usize
     p + 3
 }
 
-// Writes the end of track behind its time from place `at` on. Returns the place behind it. Not one function with the one above: the bytes behind the
-// time would be an array made ahead of the call, where those of an event are written as they are computed.
+// Writes the end of track behind its time from place `at` on. Returns the place behind it. One function with the one above would take the three bytes,
+// which `put_message` computes from an event where it writes them, and is no plainer.
 pub fn put_end(out: &mut [u8], at: usize, time: u32) -> usize
     requires { (time < 268435456) × (at + length (quantity_bytes time) + 3 ≤ length out.old) }
     ensures { (result ≡ at + length (quantity_bytes time) + 3) × (out.new ≡ splice out.old at (quantity_bytes time ++ end_of_track)) }

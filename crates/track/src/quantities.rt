@@ -14,7 +14,8 @@ pub struct Quantity {
 pub fn quantity_at(s: &[u8], at: usize) -> Option<Quantity>
     ensures { quantity_of result ≡ quantity_at s.now at }
 {
-    // The position is counted beside the loop: with a `for` over positions in its place, each event of a track took a fifth longer to read.
+    // The position is counted beside the loop: with a `for` over positions in its place, each event of a track took a fifth longer to read, so that a
+    // load of 1,500 notes would take longer than the second implementation's.
     let mut q = at;
     let mut sum: u32 = 0;
     for _group in 0..4u32 {

@@ -1,4 +1,5 @@
-// The file of few notes: all their events stand in one table, and are put in order there.
+// The file of few notes: all their events stand in one table, and are put in order there. That they are few is found by a test in `files`; a type for
+// it would stand beside `Take` for three functions.
 ghost use Rattle.std.specs.Prelude.{◌≡◌, ◌+◌, ◌*◌, ◌≤◌, leb, length};
 ghost use Rattle.words.specs.Splice.{splice};
 ghost use Rattle.radix.specs.Sort.{sort};
