@@ -9,9 +9,9 @@ use Rattle.frames.specs.Digits.{byte_digits, digits_of}
 use Rattle.frames.specs.Lines.{Frame, malformed, write_frame, with_words, open_of, lay_of, split_of, join_of, write_of, load_of, change_of, call_of, frame_of, decoded, frame_read, frame_in}
 use Rattle.frames.specs.Answers.{number_of, session_after, file_after, answer_of}
 use Rattle.frames.specs.Calling.{number_in, Changed, Wrote}
-use Rattle.frames.specs.Answering.{Put, Answers, Collects}
+use Rattle.frames.specs.Answering.{Put, Answers}
 use Rattle.frames.specs.declared.calls.Refusal.{Refusal}
-use Rattle.frames.proofs.Putting.{length-digits_of, take-splice}
+use Rattle.frames.proofs.Putting.{length-digits_of}
 use Rattle.frames.proofs.Carried.{nothing}
 
 -- ---- the frame of a call byte
@@ -115,15 +115,3 @@ module _ {s : List ℕ} {f : Frame} {file : List ℕ} {n : ℕ} (w : Wrote s f f
         end = omega arith;
         few = omega (arith, file_room);
       })
-
--- an answer behind those that are collected
-pub collected : {s bytes : List ℕ} {count : ℕ} {f : Frame} {s' bytes' : List ℕ} {to : ℕ} → count + 16387 ≤ length bytes → Answers s bytes count f s' bytes' to
-    → Collects s (take count bytes) f s' (take to bytes')
-collected {s} {bytes} {count} {f} {bytes' = bytes'} {to} room a =
-    let made : take to bytes' ≡ take count bytes ++ answer_of s f =
-    rw (a.put.output, a.put.end) (take-splice bytes count (answer_of s f) (omega (arith, a.put.end, a.put.few))) in
-    record {
-      session = a.session;
-      output = made;
-      few = omega (arith, ap length made, length-append (take count bytes) (answer_of s f), a.put.end, a.put.few);
-    }

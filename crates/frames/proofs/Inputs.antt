@@ -4,44 +4,50 @@ use Rattle.std.proofs.Common.{sym, ap, ◌∙◌, append-nil, append_assoc, add-
 use Rattle.std.proofs.lemmas.List.{drop-append-le}
 use lib.ListN.{take-append-drop}
 use lib.Seq.{take_all, take-suc, drop-drop}
+use Rattle.words.specs.Splice.{splice, splice-append}
 use Rattle.frames.specs.Lines.{frame_in}
 use Rattle.frames.specs.Answers.{answer_of, line_answer, line_after}
-use Rattle.frames.specs.Answering.{Collects}
-use Rattle.frames.specs.Input.{Reading, kept, taken, written, taken_all, written_all, written_last}
-use Rattle.frames.specs.Blocks.{reading_of, Takes, TakesOne, ReadOn}
-use Rattle.frames.specs.Loop.{Flushed, ReadWhole, ReadSome, Last}
-use Rattle.frames.specs.declared.input.Progress.{Progress}
+use Rattle.frames.specs.Answering.{Answers}
+use Rattle.frames.specs.Input.{kept, taken, written, taken_all, written_all, written_last}
+use Rattle.frames.specs.Blocks.{Takes, TakesOne, ReadOn}
+use Rattle.frames.specs.Loop.{Flushed, ReadWhole, Reads, ReadSome, Last}
+use Rattle.frames.specs.declared.input.Reading.{Reading}
+use Rattle.frames.specs.declared.input.Stop.{Stop}
+use Rattle.frames.specs.declared.program.Progress.{Progress}
+use Rattle.frames.proofs.Putting.{take-splice}
 
 -- ---- one byte
 
-module _ {N : ℕ} {p : Progress N} where
-  pub takes-end : {s out : List ℕ} → Collects p.session p.answers (frame_in p.line) s out → TakesOne p 10 (record { session = s; line = []; answers = out })
+module _ {r : Reading} {out : List ℕ} {at : ℕ} where
+  pub takes-end : {s out' : List ℕ} {to : ℕ} → Answers r.session out at (frame_in r.line) s out' to → TakesOne r out at 10 (record { session = s; line = [] }) out' to
   unfolding taken_all written_all taken written line_answer line_after
   takes-end a =
+      let f = frame_in r.line in
+      let all = sym (append-nil (answer_of r.session f)) in
       record {
         takes = record {
           state = ap (λ (x : List ℕ). record { session = x; line = [] }) a.session;
-          output = a.output ∙ ap (λ (x : List ℕ). p.answers ++ x) (sym (append-nil (answer_of p.session (frame_in p.line))));
+          output = a.put.output ∙ ap (splice out at) all;
+          end = a.put.end ∙ ap (λ (x : List ℕ). at + length x) all;
         };
-        small = a.few;
+        small = a.put.few;
       }
 
-  pub takes_kept : {c : ℕ} {line : List ℕ} → (c ≡ 10 → ⊥) → line ≡ kept p.line c
-      → TakesOne p c (record { session = p.session; line = line; answers = p.answers })
-  unfolding taken_all written_all taken written
+  pub takes_kept : {c : ℕ} {line : List ℕ} → (c ≡ 10 → ⊥) → line ≡ kept r.line c → TakesOne r out at c (record { session = r.session; line = line }) out at
+  unfolding taken_all written_all taken written splice
   takes_kept {c} other e =
       let no = ne_eqb c 10 other in
       record {
-        takes = record { state = rw no (ap (λ (x : List ℕ). record { session = p.session; line = x }) e); output = rw no (sym (append-nil p.answers)) };
+        takes = record { state = rw no (ap (λ (x : List ℕ). record { session = r.session; line = x }) e); output = rw no; end = rw no (omega arith) };
         small = omega arith;
       }
 
 -- the last line, if it has a character
-pub last_none : (r : Reading) → r.line ≡ [] → written_last r ≡ []
+last_none : (r : Reading) → r.line ≡ [] → written_last r ≡ []
 unfolding written_last
 last_none r e = rw e
 
-pub last_some : (r : Reading) → (r.line ≡ [] → ⊥) → written_all r (10 ∷ []) ≡ written_last r
+last_some : (r : Reading) → (r.line ≡ [] → ⊥) → written_all r (10 ∷ []) ≡ written_last r
 unfolding written_last written_all written
 last_some r some =
     rw (ne_eqb (length r.line) 0 (λ e. some (empty r.line e))) (append-nil (line_answer r.session r.line))
@@ -62,14 +68,64 @@ unfolding written_all taken_all
 written-append r [] cs = refl
 written-append r (b ∷ bs) cs = rw (written-append (taken r b) bs cs) (sym (append_assoc (written r b) (written_all (taken r b) bs) (written_all (taken_all (taken r b) bs) cs)))
 
-pub whole_none : {N : ℕ} (p : Progress N) → ReadWhole p [] 0 p
+-- ---- a block
+
+takes_none : (r : Reading) (out : List ℕ) (at : ℕ) → Takes r out at [] r out at
+unfolding taken_all written_all splice
+takes_none r out at = record { state = refl; output = refl; end = omega arith }
+
+takes_append : {r : Reading} {out : List ℕ} {at : ℕ} {bs : List ℕ} {r₁ : Reading} {out₁ : List ℕ} {to₁ : ℕ} {cs : List ℕ} {r₂ : Reading} {out₂ : List ℕ} {to₂ : ℕ}
+    → Takes r out at bs r₁ out₁ to₁ → Takes r₁ out₁ to₁ cs r₂ out₂ to₂ → Takes r out at (bs ++ cs) r₂ out₂ to₂
+takes_append {r} {out} {at} {bs} {r₁} {out₁} {to₁} {cs} {r₂} {out₂} {to₂} a b =
+    let us = written_all r bs in
+    let ws = written_all (taken_all r bs) cs in
+    let state' : r₂ ≡ taken_all (taken_all r bs) cs = rw a.state at b.state in
+    let output' : out₂ ≡ splice out₁ to₁ ws = rw a.state at b.output in
+    let end' : to₂ ≡ to₁ + length ws = rw a.state at b.end in
+    let more = written-append r bs cs in
+    record {
+      state = state' ∙ sym (taken-append r bs cs);
+      output = output' ∙ rw (a.output, a.end, more) (sym (splice-append out at us ws));
+      end = omega (arith, end', a.end, ap length more, length-append us ws);
+    }
+
+-- the first i bytes of the block are taken, and the answers end inside the output
+pub record Goes (r : Reading) (out : List ℕ) (at : ℕ) (block : List ℕ) (i : ℕ) (r' : Reading) (out' : List ℕ) (to : ℕ) : Type 0 where
+  pub takes : Takes r out at (take i block) r' out' to
+  pub inside : to ≤ length out
+
+pub goes_start : (r : Reading) (out : List ℕ) (at : ℕ) (block : List ℕ) → at ≤ length out → Goes r out at block 0 r out at
+goes_start r out at block inside = record { takes = takes_none r out at; inside = inside }
+
+module _ {r : Reading} {out : List ℕ} {at : ℕ} {block : List ℕ} {i : ℕ} {r' : Reading} {out' : List ℕ} {to : ℕ} (g : Goes r out at block i r' out' to) where
+  pub goes_on : i < length block → to + 16387 ≤ length out → {s : Reading} {t : List ℕ} {end : ℕ} → TakesOne r' out' to (get_or block i 0) s t end → Goes r out at block (i + 1) s t end
+  goes_on more room {s} {t} {end} one =
+      let next : take i block ++ get_or block i 0 ∷ [] ≡ take (i + 1) block = rw (add-one i) (sym (take-suc block i 0 more)) in
+      record { takes = rw next at (takes_append g.takes one.takes); inside = omega (arith, one.small) }
+
+  pub goes_stop : i < length block → length out < to + 16387 → ReadOn block r out at r' out' (record { taken = i; end = to })
+  goes_stop more full = record { within = omega arith; takes = g.takes; room = g.inside; stops = λ h. full }
+
+  pub goes_done : length block ≤ i → ReadOn block r out at r' out' (record { taken = length block; end = to })
+  goes_done end =
+      let all : take i block ≡ take (length block) block = take_all i block end ∙ sym (take_all (length block) block (omega arith)) in
+      record { within = omega arith; takes = rw all at g.takes; room = g.inside; stops = λ h. absurd (omega arith) }
+
+-- ---- answers that are collected
+
+-- what stands ahead of the place, and the answers behind it
+pub collected : {r : Reading} {out : List ℕ} {at : ℕ} {bs : List ℕ} {r' : Reading} {out' : List ℕ} {to : ℕ} → Takes r out at bs r' out' to → to ≤ length out
+    → take to out' ≡ take at out ++ written_all r bs
+collected {r} {out} {at} {bs} t inside = rw (t.output, t.end) (take-splice out at (written_all r bs) (omega (arith, t.end)))
+
+pub whole_none : (p : Progress) → ReadWhole p [] 0 p
 unfolding taken_all written_all
 whole_none p = record { state = refl; count = omega arith; output = sym (append-nil p.answers) }
 
 -- all that is collected is written
-pub whole_flushed : {N : ℕ} {p : Progress N} {n : ℕ} {q : Progress N} → Flushed p n q → ReadWhole p [] n q
+pub whole_flushed : {p : Progress} {n : ℕ} {q : Progress} → Flushed p n q → ReadWhole p [] n q
 unfolding taken_all written_all
-whole_flushed {N} {p} {n} f =
+whole_flushed {p} {n} f =
     rw f.emptied
     (record {
       state = refl;
@@ -77,22 +133,14 @@ whole_flushed {N} {p} {n} f =
       output = sym (ap (drop n) (append-nil p.answers) ∙ drop_of_length-le p.answers {i = n} (omega (arith, f.count)));
     })
 
-pub whole_taken : {N : ℕ} {p : Progress N} {bs : List ℕ} {q : Progress N} → Takes p bs q → ReadWhole p bs 0 q
-whole_taken {N} {p} {bs} t =
-    record {
-      state = t.state;
-      count = omega (arith, ap length t.output, length-append p.answers (written_all (reading_of p) bs));
-      output = t.output;
-    }
-
-pub whole_append : {N : ℕ} {p : Progress N} {bs : List ℕ} {m : ℕ} {q : Progress N} {cs : List ℕ} {n : ℕ} {t : Progress N}
+pub whole_append : {p : Progress} {bs : List ℕ} {m : ℕ} {q : Progress} {cs : List ℕ} {n : ℕ} {t : Progress}
     → ReadWhole p bs m q → ReadWhole q cs n t → ReadWhole p (bs ++ cs) (m + n) t
-whole_append {N} {p} {bs} {m} {q} {cs} {n} {t} a b =
-    let r = reading_of p in
+whole_append {p} {bs} {m} {q} {cs} {n} {t} a b =
+    let r = p.reading in
     let us = written_all r bs in
     let ws = written_all (taken_all r bs) cs in
     let both = length-append p.answers us in
-    let state' : reading_of t ≡ taken_all (taken_all r bs) cs = rw a.state at b.state in
+    let state' : t.reading ≡ taken_all (taken_all r bs) cs = rw a.state at b.state in
     let count' : n + length t.answers ≡ length q.answers + length ws = rw a.state at b.count in
     let output' : t.answers ≡ drop n (q.answers ++ ws) = rw a.state at b.output in
     let more = written-append r bs cs in
@@ -106,74 +154,59 @@ whole_append {N} {p} {bs} {m} {q} {cs} {n} {t} a b =
           ∙ ap (drop (m + n)) (append_assoc p.answers us ws ∙ ap (◌++◌ p.answers) (sym more));
     }
 
--- ---- a block
-
-takes_none : {N : ℕ} (p : Progress N) → Takes p [] p
-unfolding taken_all written_all
-takes_none p = record { state = refl; output = sym (append-nil p.answers) }
-
-takes_append : {N : ℕ} {p : Progress N} {bs : List ℕ} {q : Progress N} {cs : List ℕ} {t : Progress N} → Takes p bs q → Takes q cs t → Takes p (bs ++ cs) t
-takes_append {N} {p} {bs} {q} {cs} {t} a b =
-    let r = reading_of p in
-    let state' : reading_of t ≡ taken_all (taken_all r bs) cs = rw a.state at b.state in
-    let output' : t.answers ≡ q.answers ++ written_all (taken_all r bs) cs = rw a.state at b.output in
+-- a block that is read on, its answers behind those that were collected
+pub reads_block : {block : List ℕ} {r : Reading} {items : List ℕ} {count : ℕ} {r' : Reading} {items' : List ℕ} {q : Stop} → ReadOn block r items count r' items' q
+    → length items ≡ 65536 → length items' ≡ 65536
+    → Reads block (record { reading = r; answers = take count items }) q.taken (record { reading = r'; answers = take q.end items' })
+reads_block {block} {r} {items} {count} {r'} {items'} {q} h long long' =
+    let made : take q.end items' ≡ take count items ++ written_all r (take q.taken block) = collected h.takes h.room in
     record {
-      state = state' ∙ sym (taken-append r bs cs);
-      output =
-          output' ∙ ap (λ (x : List ℕ). x ++ written_all (taken_all r bs) cs) a.output
-          ∙ append_assoc p.answers (written_all r bs) (written_all (taken_all r bs) cs) ∙ ap (◌++◌ p.answers) (sym (written-append r bs cs));
+      within = h.within;
+      whole = record {
+        state = h.takes.state;
+        count = omega (arith, ap length made, length-append (take count items) (written_all r (take q.taken block)));
+        output = made;
+      };
+      stops = λ less. omega (arith, h.stops less, h.room, length-take-le q.end items' (omega (arith, h.room)));
     }
 
--- the first i bytes of the block are taken
-pub record Goes {N : ℕ} (p : Progress N) (block : List ℕ) (i : ℕ) (q : Progress N) : Type 0 where
-  pub takes : Takes p (take i block) q
+-- the answer to a last line, behind those that were collected
+pub last_read : {r : Reading} {items : List ℕ} {count : ℕ} {r' : Reading} {items' : List ℕ} {to : ℕ} → TakesOne r items count 10 r' items' to
+    → count + 16387 ≤ length items → (r.line ≡ [] → ⊥) → take to items' ≡ take count items ++ written_last r
+last_read {r} {items} {count} t room some = collected t.takes (omega (arith, t.small)) ∙ ap (λ (x : List ℕ). take count items ++ x) (last_some r some)
 
-pub goes_start : {N : ℕ} (p : Progress N) (block : List ℕ) → Goes p block 0 p
-goes_start p block = record { takes = takes_none p }
-
-module _ {N : ℕ} {p : Progress N} {block : List ℕ} {i : ℕ} {q : Progress N} (g : Goes p block i q) where
-  pub goes_on : i < length block → {t : Progress N} → TakesOne q (get_or block i 0) t → Goes p block (i + 1) t
-  goes_on more {t} one =
-      let next : take i block ++ get_or block i 0 ∷ [] ≡ take (i + 1) block = rw (add-one i) (sym (take-suc block i 0 more)) in
-      record { takes = rw next at (takes_append g.takes one.takes) }
-
-  pub goes_stop : i < length block → (length q.answers + 16387 ≤ N → ⊥) → ReadOn block p i q
-  goes_stop more full = record { within = omega arith; takes = g.takes; stops = λ h. omega arith }
-
-  pub goes_done : length block ≤ i → ReadOn block p (length block) q
-  goes_done end =
-      let all : take i block ≡ take (length block) block = take_all i block end ∙ sym (take_all (length block) block (omega arith)) in
-      record { within = omega arith; takes = rw all at g.takes; stops = λ h. absurd (omega arith) }
+pub last_unread : (answers : List ℕ) (r : Reading) → r.line ≡ [] → answers ≡ answers ++ written_last r
+last_unread answers r e = sym (ap (λ (x : List ℕ). answers ++ x) (last_none r e) ∙ append-nil answers)
 
 -- some bytes of the block are read, and the others are left
-pub record Between {N : ℕ} (p : Progress N) (block left : List ℕ) (sent : ℕ) (q : Progress N) : Type 0 where
+pub record Between (p : Progress) (block left : List ℕ) (sent : ℕ) (q : Progress) : Type 0 where
   pub read : List ℕ
   pub parts : read ++ left ≡ block
   pub whole : ReadWhole p read sent q
   pub few : sent ≤ length read * 65536
 
-pub between_start : {N : ℕ} (p : Progress N) (block : List ℕ) → Between p block block 0 p
+pub between_start : (p : Progress) (block : List ℕ) → Between p block block 0 p
 between_start p block = record { read = []; parts = refl; whole = whole_none p; few = omega arith }
 
 -- where there is room for an answer, a byte is taken
-pub reads_some : {N : ℕ} {left : List ℕ} {p : Progress N} {n : ℕ} {q : Progress N} → ReadOn left p n q → 1 ≤ length left → length p.answers + 16387 ≤ N → 1 ≤ n
+pub reads_some : {left : List ℕ} {p : Progress} {n : ℕ} {q : Progress} → Reads left p n q → 1 ≤ length left → length p.answers + 16387 ≤ 65536 → 1 ≤ n
 unfolding written_all
 reads_some {p = p} {n = zero} {q} r some room =
-    let same : q.answers ≡ p.answers = r.takes.output ∙ append-nil p.answers in
+    let same : q.answers ≡ p.answers = r.whole.output ∙ append-nil p.answers in
     absurd (omega (arith, r.stops some, ap length same))
 reads_some {n = suc n} r some room = omega arith
 
-pub reads_less : {N : ℕ} {left : List ℕ} {p : Progress N} {n : ℕ} {q : Progress N} → ReadOn left p n q → 1 ≤ length left → length p.answers + 16387 ≤ N
+pub reads_less : {left : List ℕ} {p : Progress} {n : ℕ} {q : Progress} → Reads left p n q → 1 ≤ length left → length p.answers + 16387 ≤ 65536
     → length (take (length left - n) (drop n left)) < length left
 reads_less {left = left} {n = n} r some room =
     let long = length-drop n left in
     omega (arith, reads_some r some room, r.within, length-take-le (length left - n) (drop n left) (omega arith))
 
-module _ {N : ℕ} {p : Progress N} {block left : List ℕ} {sent : ℕ} {q : Progress N} (b : Between p block left sent q) where
-  pub between_on : {m : ℕ} {t : Progress N} → ReadWhole q [] m t → m ≤ 65536 → {n : ℕ} {u : Progress N} → ReadOn left t n u → 1 ≤ n
+module _ {p : Progress} {block left : List ℕ} {sent : ℕ} {q : Progress} (b : Between p block left sent q) where
+  pub between_on : {m : ℕ} {t : Progress} → ReadWhole q [] m t → m ≤ 65536 → {n : ℕ} {u : Progress} → Reads left t n u → 1 ≤ n
       → Between p block (take (length left - n) (drop n left)) (sent + m) u
   between_on {m} {t} room small {n} {u} r some =
-      let all : ReadWhole p ((b.read ++ []) ++ take n left) (sent + m + 0) u = whole_append (whole_append b.whole room) (whole_taken r.takes) in
+      let all : ReadWhole p ((b.read ++ []) ++ take n left) (sent + m + 0) u = whole_append (whole_append b.whole room) r.whole in
       let sum : sent + m + 0 ≡ sent + m = omega arith in
       let plain = append-nil b.read in
       let rest : take (length left - n) (drop n left) ≡ drop n left = take_all (length left - n) (drop n left) (omega (arith, length-drop n left)) in
@@ -192,14 +225,14 @@ module _ {N : ℕ} {p : Progress N} {block left : List ℕ} {sent : ℕ} {q : Pr
 
 -- ---- standard input
 
-pub some-none : {N : ℕ} (p : Progress N) → ReadSome p p
+pub some-none : (p : Progress) → ReadSome p p
 some-none p = record { input = []; sent = 0; whole = whole_none p }
 
-pub some_more : {N : ℕ} {p q : Progress N} {bytes : List ℕ} {n : ℕ} {t : Progress N} → ReadSome p q → ReadWhole q bytes n t → ReadSome p t
+pub some_more : {p q : Progress} {bytes : List ℕ} {n : ℕ} {t : Progress} → ReadSome p q → ReadWhole q bytes n t → ReadSome p t
 some_more {bytes = bytes} {n} a b = record { input = a.input ++ bytes; sent = a.sent + n; whole = whole_append a.whole b }
 
-pub last_whole : {N : ℕ} {p : Progress N} {n : ℕ} {q : Progress N} → Flushed p n q → {t : Progress N} → t.answers ≡ q.answers ++ written_last (reading_of q)
+pub last_whole : {p : Progress} {n : ℕ} {q : Progress} → Flushed p n q → {t : Progress} → t.answers ≡ q.answers ++ written_last q.reading
     → Last p t (n + length t.answers)
-last_whole {N} {p} {n} f {t} e =
-    let made : t.answers ≡ written_last (reading_of p) = rw f.emptied at e in
+last_whole {p} {n} f {t} e =
+    let made : t.answers ≡ written_last p.reading = rw f.emptied at e in
     record { count = omega (arith, f.count, ap length made); output = made }

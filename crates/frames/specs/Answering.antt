@@ -1,5 +1,5 @@
 -- What the functions that answer a line leave, for its frame f. Assumes nothing.
-use Rattle.std.specs.Prelude.{◌≡◌, List, ◌++◌, ℕ, ◌+◌, ◌≤◌, length}
+use Rattle.std.specs.Prelude.{◌≡◌, List, ℕ, ◌+◌, ◌≤◌, length}
 use Rattle.words.specs.Splice.{splice}
 use Rattle.frames.specs.Lines.{Frame}
 use Rattle.frames.specs.Answers.{session_after, answer_of}
@@ -22,9 +22,3 @@ pub record Put (out : List ℕ) (at : ℕ) (ws : List ℕ) (out' : List ℕ) (to
 pub record Answers (s out : List ℕ) (at : ℕ) (f : Frame) (s' out' : List ℕ) (to : ℕ) : Type 0 where
   pub session : s' ≡ session_after s f
   pub put : Put out at (answer_of s f) out' to
-
--- The session gives way to the one after the frame; the answer stands behind those that were collected.
-pub record Collects (s out : List ℕ) (f : Frame) (s' out' : List ℕ) : Type 0 where
-  pub session : s' ≡ session_after s f
-  pub output : out' ≡ out ++ answer_of s f
-  pub few : length out' ≤ length out + max_answer

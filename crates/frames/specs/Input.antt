@@ -1,13 +1,9 @@
 -- "Reads standard input, one frame a line": lines taken from an input byte by byte, and all that is written. Assumes nothing.
 use Rattle.std.specs.Prelude.{cond, List, [], ◌∷◌, ◌++◌, ℕ, eqb, ltb, length}
 use Rattle.frames.specs.Answers.{line_answer, line_after}
+use Rattle.frames.specs.declared.input.Reading.{Reading}
 
--- The session, and the characters kept of the line in hand.
-pub record Reading : Type 0 where
-  pub session : List ℕ
-  pub line : List ℕ
-
--- At first no session is open, and nothing is read.
+-- A reading is the session and the characters kept of the line in hand. At first no session is open, and nothing is read.
 unfoldable pub start : Reading
 start = record { session = []; line = [] }
 

@@ -4,7 +4,8 @@ use Rattle.std.proofs.Common.{sym, ap, ◌∙◌, append-nil, append_assoc, arit
 use Rattle.std.proofs.lemmas.Bool.{lt-leb}
 use Rattle.frames.specs.Lines.{Frame, decoded, frame_in}
 use Rattle.frames.specs.Answers.{session_after, answer_of, line_answer, line_after, answers}
-use Rattle.frames.specs.Input.{Reading, start, kept, taken, written, taken_all, written_all, written_last, output_of, lines_from}
+use Rattle.frames.specs.declared.input.Reading.{Reading}
+use Rattle.frames.specs.Input.{start, kept, taken, written, taken_all, written_all, written_last, output_of, lines_from}
 
 -- the characters kept of a line are the line, or both are too long
 data Alike (k l : List ℕ) : Type 0 where

@@ -4,9 +4,8 @@ ghost use Rattle.frames.specs.Digits.{byte_digits};
 ghost use Rattle.frames.specs.Lines.{write_of, call_of, frame_of, frame_in};
 ghost use Rattle.frames.specs.Answers.{answer_of};
 ghost use Rattle.frames.specs.Calling.{number_in};
-ghost use Rattle.frames.specs.Answering.{max_answer, Put, Answers, Collects};
+ghost use Rattle.frames.specs.Answering.{max_answer, Put, Answers};
 
-use crate::buffer::Buffer;
 use crate::calls::{OUTPUT_BYTES, Refusal};
 use crate::sessions::Session;
 use crate::{calls, digits};
@@ -85,15 +84,5 @@ pub fn answer(line: &[u8], session: &mut Session, out: &mut [u8], at: usize) -> 
     match digits::decode(line, &mut bytes) {
         Some(count) => answer_frame(&bytes[..count], session, out, at),
         None => put_number(out, at, Err(Refusal::Malformed)),
-    }
-}
-
-impl<const N: usize> Buffer<u8, N> {
-    // Collects the answer to a line, which is carried out on the session.
-    pub fn push_answer(&mut self, line: &[u8], session: &mut Session)
-        requires { length self.old + max_answer ≤ N }
-        ensures { Collects session.old self.old (frame_in line.now) session.new self.new }
-    {
-        self.count = answer(line, session, &mut self.items, self.count);
     }
 }

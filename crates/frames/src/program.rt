@@ -3,11 +3,10 @@
 ghost use Rattle.std.specs.Prelude.{◌≡◌, ◌++◌, ◌+◌, ◌≤◌, [], length};
 ghost use Rattle.frames.specs.Input.{written_last};
 ghost use Rattle.frames.specs.Answering.{out_bytes, max_answer};
-ghost use Rattle.frames.specs.Blocks.{reading_of};
-ghost use Rattle.frames.specs.Loop.{block_bytes, Flushed, ReadWhole, ReadSome, Last};
+ghost use Rattle.frames.specs.Loop.{block_bytes, Flushed, ReadWhole, ReadSome, Reads, Last};
 
 use crate::buffer::Buffer;
-use crate::input::Progress;
+use crate::input::{MAX_ANSWER, Reading};
 use crate::sessions::Session;
 use std::io::{Read, Stdin, Stdout, Write};
 
@@ -16,6 +15,13 @@ const BLOCK_BYTES: usize = 65536;
 
 // The bytes of answers that are collected before they are written.
 const OUT_BYTES: usize = 65536;
+
+// What is kept of the input so far, and the answers that are not yet written.
+#[derive(Drop)]
+struct Progress {
+    reading: Reading,
+    answers: Buffer<u8, OUT_BYTES>,
+}
 
 // Writes answers. Returns how many bytes they are.
 fn send(to: &mut Stdout, answers: &[u8]) -> usize
@@ -26,7 +32,7 @@ fn send(to: &mut Stdout, answers: &[u8]) -> usize
     answers.len()
 }
 
-impl Progress<OUT_BYTES> {
+impl Progress {
     // Writes the answers that are collected, and forgets them. Returns how many bytes they are.
     fn flush(&mut self, to: &mut Stdout) -> usize
         ensures { Flushed self.old result self.new }
@@ -42,10 +48,21 @@ impl Progress<OUT_BYTES> {
         ensures few { result ≤ out_bytes }
         ensures room { length self.new.answers + max_answer ≤ out_bytes }
     {
-        if self.has_room() {
+        if self.answers.room() >= MAX_ANSWER {
             return 0;
         }
         self.flush(to)
+    }
+
+    // Reads on in a block, and collects the answers. Returns how many bytes it took.
+    fn read_on(&mut self, block: &[u8]) -> usize
+        ensures { Reads block.now self.old result self.new }
+    {
+        let stop = self
+            .reading
+            .read_on(block, &mut self.answers.items, self.answers.count);
+        self.answers.count = stop.end;
+        stop.taken
     }
 
     // Reads a whole block. Returns how many bytes of answers are written.
@@ -83,10 +100,11 @@ impl Progress<OUT_BYTES> {
     // `answers`: no type carries it, since answers use it up and a write makes it again, while what a type says holds all the time.
     fn last_line(&mut self)
         requires { length self.old.answers + max_answer ≤ out_bytes }
-        ensures { self.new.answers ≡ self.old.answers ++ written_last (reading_of self.old) }
+        ensures { self.new.answers ≡ self.old.answers ++ written_last self.old.reading }
     {
-        if !self.line.is_empty() {
-            self.end_line();
+        if !self.reading.line.is_empty() {
+            let count = self.answers.count;
+            self.answers.count = self.reading.end_line(&mut self.answers.items, count);
         }
     }
 
@@ -102,9 +120,12 @@ impl Progress<OUT_BYTES> {
 
 // Answers standard input to its end.
 pub fn run(from: &mut Stdin, to: &mut Stdout) {
-    let mut progress = Progress {
+    let reading = Reading {
         session: Session::new(),
         line: Buffer::new(),
+    };
+    let mut progress = Progress {
+        reading,
         answers: Buffer::new(),
     };
     progress.read_all(from, to);

@@ -1,6 +1,6 @@
 -- `frames::program::Progress::flush` meets its contract.
 use Rattle.std.proofs.Common.{ap, ◌∙◌, length, refl, arith}
-use Rattle.frames.proofs.program.Progress+OUT_BYTES.flush.Goals as goal
+use Rattle.frames.proofs.program.Progress.flush.Goals as goal
 
 pub returns : goal.returns
 returns c =

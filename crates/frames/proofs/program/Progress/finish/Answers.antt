@@ -1,7 +1,7 @@
 -- `frames::program::Progress::finish` meets its contract.
 use Rattle.std.proofs.Common.{arith, ap, length}
 use Rattle.frames.proofs.Inputs.{last_whole}
-use Rattle.frames.proofs.program.Progress+OUT_BYTES.finish.Goals as goal
+use Rattle.frames.proofs.program.Progress.finish.Goals as goal
 
 pub last_line-requires : goal.last_line-requires
 last_line-requires c = omega (arith, ap (λ x. length x.answers) c.flush-sent.ensures.emptied)

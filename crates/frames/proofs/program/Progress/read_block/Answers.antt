@@ -2,7 +2,7 @@
 use Rattle.std.proofs.Common.{◌≤◌, sym, length, arith}
 use Rattle.std.proofs.lemmas.Bool.{eqb-true, eqb-false}
 use Rattle.frames.proofs.Inputs.{between_start, reads_some, reads_less, between_on, between_end}
-use Rattle.frames.proofs.program.Progress+OUT_BYTES.read_block.Goals as goal
+use Rattle.frames.proofs.program.Progress.read_block.Goals as goal
 
 pub loop-left-init : goal.loop-left-init
 loop-left-init c = between_start _ _

@@ -1,6 +1,6 @@
 -- `frames::program::Progress::read_all` meets its contract.
 use Rattle.frames.proofs.Inputs.{some-none, some_more}
-use Rattle.frames.proofs.program.Progress+OUT_BYTES.read_all.Goals as goal
+use Rattle.frames.proofs.program.Progress.read_all.Goals as goal
 
 pub loop-init : goal.loop-init
 loop-init c = some-none _
