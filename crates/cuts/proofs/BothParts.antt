@@ -43,7 +43,10 @@ module _ (s : List ℕ) (at : Ends) {ls rs : List ℕ} (ws : List ℕ) where
 
 -- ---- a note
 
-module _ {s : List ℕ} {h : Header} {a b : Half} (sides : Sides a b) {n : Note} {end : ℕ} {at : Cursors} (q : PartsAsks s h a b n end at) where
+module _ {s : List ℕ} {h : Header} {a b : Half} (sides : Sides a b) {n : Note} {at : Cursors} (q : PartsAsks s h a b n at) where
+  abbrev end : ℕ
+  end = at.closings.end
+
   abbrev closing : List Cell
   closing = last_cells s end at.closings.left
 
@@ -67,9 +70,9 @@ module _ {s : List ℕ} {h : Header} {a b : Half} (sides : Sides a b) {n : Note}
     before-room = rw before-left at q.left-room
 
     pub before-put : {t : List ℕ} → t ≡ splice s at.to.left (note_words n)
-        → PartsPut s h a b n end at t (record { to = record { left = at.to.left + 4; right = at.to.right }; closings = at.closings; openings = at.openings })
+        → PartsPut s h a b n at t (record { to = record { left = at.to.left + 4; right = at.to.right }; closings = at.closings; openings = at.openings })
     before-put e = record {
-      closings_end = q.closings_end;
+      closings_end = refl;
       openings_end = q.openings_end;
       closings_are = none_before a n closing i;
       closings_few = omega arith;
@@ -100,9 +103,9 @@ module _ {s : List ℕ} {h : Header} {a b : Half} (sides : Sides a b) {n : Note}
       behind-room = rw behind-right at q.right-room
 
       pub behind-put : {t : List ℕ} → t ≡ splice s at.to.right (note_words (note_back a.line n))
-          → PartsPut s h a b n end at t (record { to = record { left = at.to.left; right = at.to.right + 4 }; closings = at.closings; openings = at.openings })
+          → PartsPut s h a b n at t (record { to = record { left = at.to.left; right = at.to.right + 4 }; closings = at.closings; openings = at.openings })
       behind-put e = record {
-        closings_end = q.closings_end;
+        closings_end = refl;
         openings_end = q.openings_end;
         closings_are = none-behind a n closing i j;
         closings_few = omega arith;
@@ -132,7 +135,7 @@ module _ {s : List ℕ} {h : Header} {a b : Half} (sides : Sides a b) {n : Note}
         module _ {x : ℕ} (is : x ≡ min k at.openings.left) where
           pub found_on : {o : ℕ} → (last_cells s end o ≡ skip n.lane b.edge (last_cells s end x)) × (o ≤ x)
               → (last_cells s end o ≡ skip n.lane b.edge opening) × (o ≤ at.openings.left) × (o ≤ k)
-          found_on g = goes_on s end n.lane a.edge b.edge at.closings.left k at.openings.left sides.edges q.closings_in q.order e.0 is g
+          found_on g = goes_on s end n.lane a.edge b.edge at.closings.left k at.openings.left sides.edges at.closings.fits q.order e.0 is g
 
         module _ {o : ℕ} (f : (last_cells s end o ≡ skip n.lane b.edge opening) × (o ≤ at.openings.left) × (o ≤ k)) where
           opened : last_cells s end o ≡ passed b n opening
@@ -157,8 +160,8 @@ module _ {s : List ℕ} {h : Header} {a b : Half} (sides : Sides a b) {n : Note}
                 let apart : Apart (end - 6 * at.openings.left) (6 * at.openings.left) at.to.left (4 * length lefts) = rw left_part at q.apart in
                 let same : Same s₁ s (end - 6 * at.openings.left) (6 * at.openings.left) =
                 rw m.words (splice_same s at.to.left (gather note_words lefts) apart (omega (arith, length-note_words lefts))) in
-                cells_agree s₁ s end end o (omega (arith, q.closings_in, q.order, f.1)) (omega (arith, q.closings_in, q.order, f.1))
-                (λ x pos upto. same.at (end - x) (omega (arith, q.closings_in, q.order, f.1)) (omega (arith, q.closings_in, q.order, f.1)))
+                cells_agree s₁ s end end o (omega (arith, at.closings.fits, q.order, f.1)) (omega (arith, at.closings.fits, q.order, f.1))
+                (λ x pos upto. same.at (end - x) (omega (arith, at.closings.fits, q.order, f.1)) (omega (arith, at.closings.fits, q.order, f.1)))
 
             pub right_asks : (at.to.right + 4 * length (across_parts h b n (last_cells s₁ end o)) ≤ length s₁) × (end ≤ length s₁) × (b.line ≤ n.end)
             right_asks =
@@ -167,7 +170,7 @@ module _ {s : List ℕ} {h : Header} {a b : Half} (sides : Sides a b) {n : Note}
 
             pub crossed_put : {x y : Last 6} → (x.end ≡ end) × (x.left ≡ k) → (y.end ≡ end) × (y.left ≡ o)
                 → {s₂ : List ℕ} {r : ℕ} → Noted s₁ at.to.right (across_parts h b n (last_cells s₁ end o)) s₂ r
-                → PartsPut s h a b n end at s₂ (record { to = record { left = l; right = r }; closings = x; openings = y })
+                → PartsPut s h a b n at s₂ (record { to = record { left = l; right = r }; closings = x; openings = y })
             crossed_put x y m₂ = record {
               closings_end = x.0;
               openings_end = y.0;

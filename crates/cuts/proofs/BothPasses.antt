@@ -1,5 +1,5 @@
 -- The two passes that write both halves: over a shelf's notes, and over its cells. Assumes nothing.
-use mathlib.Core.Path.{◌≡◌, refl, sym, ap, subst, ◌∙◌}
+use mathlib.Core.Path.{◌≡◌, refl, sym, ap, ◌∙◌}
 use mathlib.Core.List.{List, [], ◌∷◌, ◌++◌}
 use Prim.Native.Nat.{ℕ, ◌+◌, ◌-◌, ◌*◌, ◌≤◌, ◌<◌}
 use native.Mathlib.Omega.{arith}
@@ -102,11 +102,11 @@ module _ {s₀ : List ℕ} {h : Header} {a b : Half} {from : Contents} {to : End
   }
 
   module _ {s : List ℕ} {at : Cursors} {left : ℕ} (l : Noting s₀ s h a b from to at left) where
-    inside : from.cells.end ≤ length s
-    inside = omega (arith, q.placed.inside, l.writes.long)
+    inside : at.closings.end ≤ length s
+    inside = omega (arith, q.placed.inside, l.writes.long, l.closings_end)
 
-    cells_now : (k : ℕ) → k ≤ from.cells.left → last_cells s from.cells.end k ≡ last_cells s₀ from.cells.end k
-    cells_now = cells_were q.placed l.writes lefts rights
+    cells_now : (k : ℕ) → k ≤ from.cells.left → last_cells s at.closings.end k ≡ last_cells s₀ from.cells.end k
+    cells_now k few = ap (λ (e : ℕ). last_cells s e k) l.closings_end ∙ cells_were q.placed l.writes lefts rights k few
 
     module _ (more : 0 < left) where
       pub note-place : 4 * left ≤ from.notes.end
@@ -116,10 +116,10 @@ module _ {s₀ : List ℕ} {h : Header} {a b : Half} {from : Contents} {to : End
         first : last_notes s₀ from.notes.end left ≡ n ∷ last_notes s₀ from.notes.end (left - 1)
         first = rw (is ∙ note_was q.placed l.writes lefts rights left more l.notes_few) (last_notes_lem s₀ from.notes.end left more note-place)
 
-        closing_now : last_cells s from.cells.end at.closings.left ≡ last_cells s₀ from.cells.end at.closings.left
+        closing_now : last_cells s at.closings.end at.closings.left ≡ last_cells s₀ from.cells.end at.closings.left
         closing_now = cells_now at.closings.left l.closings_few
 
-        opening_now : last_cells s from.cells.end at.openings.left ≡ last_cells s₀ from.cells.end at.openings.left
+        opening_now : last_cells s at.closings.end at.openings.left ≡ last_cells s₀ from.cells.end at.openings.left
         opening_now = cells_now at.openings.left (omega (arith, l.closings_few, l.order))
 
         left-fits : at.to.left + 4 * length (part_from h a n (last_cells s₀ from.cells.end at.closings.left)) ≤ to.left + 4 * length (notes_left h a s₀ from from.notes.left from.cells.left)
@@ -128,19 +128,17 @@ module _ {s₀ : List ℕ} {h : Header} {a b : Half} {from : Contents} {to : End
         right-fits : at.to.right + 4 * length (part_from h b n (last_cells s₀ from.cells.end at.openings.left)) ≤ to.right + 4 * length (notes_left h b s₀ from from.notes.left from.cells.left)
         right-fits = omega (arith, l.writes.right-place, rights, first_fits s₀ h b right_ok from left n first at.openings.left)
 
-        cells-apart : Apart (from.cells.end - 6 * at.openings.left) (6 * at.openings.left) at.to.left (4 * length (part_from h a n (last_cells s₀ from.cells.end at.closings.left)))
+        cells-apart : Apart (at.closings.end - 6 * at.openings.left) (6 * at.openings.left) at.to.left (4 * length (part_from h a n (last_cells s₀ from.cells.end at.closings.left)))
         cells-apart =
             apart_swap
-            (apart-within (from.cells.end - 6 * at.openings.left) (6 * at.openings.left)
+            (apart-within (at.closings.end - 6 * at.openings.left) (6 * at.openings.left)
             (apart_swap (apart-within at.to.left (4 * length (part_from h a n (last_cells s₀ from.cells.end at.closings.left))) q.placed.left-from l.writes.left_low left-fits))
-            (omega (arith, q.placed.cells_in, l.closings_few, l.order))
-            (omega (arith, q.placed.cells_in, l.closings_few, l.order)))
+            (omega (arith, q.placed.cells_in, l.closings_end, l.closings_few, l.order))
+            (omega (arith, q.placed.cells_in, l.closings_end, l.closings_few, l.order)))
 
-        at_end : PartsAsks s h a b n from.cells.end at
-        at_end = record {
-          closings_end = l.closings_end;
-          openings_end = l.openings_end;
-          closings_in = omega (arith, q.placed.cells_in, l.closings_few);
+        pub parts_asks : PartsAsks s h a b n at
+        parts_asks = record {
+          openings_end = l.openings_end ∙ sym l.closings_end;
           order = l.order;
           inside = inside;
           left-room = rw closing_now (omega (arith, left-fits, q.placed.left-room, l.writes.long));
@@ -148,12 +146,8 @@ module _ {s₀ : List ℕ} {h : Header} {a b : Half} {from : Contents} {to : End
           apart = rw closing_now cells-apart;
         }
 
-        pub parts_asks : PartsAsks s h a b n at.closings.end at
-        parts_asks = subst (λ e. PartsAsks s h a b n e at) (sym l.closings_end) at_end
-
-        pub noting_note : {t : List ℕ} {r : Cursors} → PartsPut s h a b n at.closings.end at t r → Noting s₀ t h a b from to r (left - 1)
-        noting_note {t} {r} put =
-            let m : PartsPut s h a b n from.cells.end at t r = subst (λ e. PartsPut s h a b n e at t r) l.closings_end put in
+        pub noting_note : {t : List ℕ} {r : Cursors} → PartsPut s h a b n at t r → Noting s₀ t h a b from to r (left - 1)
+        noting_note {t} {r} m =
             let few-closings : r.closings.left ≤ from.cells.left = omega (arith, m.closings_few, l.closings_few) in
             let few-openings : r.openings.left ≤ from.cells.left = omega (arith, m.order, few-closings) in
             let closed : last_cells s₀ from.cells.end r.closings.left ≡ passed a n (last_cells s₀ from.cells.end at.closings.left) =
@@ -162,8 +156,8 @@ module _ {s₀ : List ℕ} {h : Header} {a b : Half} {from : Contents} {to : End
             sym (cells_now r.openings.left few-openings) ∙ m.openings_are ∙ ap (passed b n) opening_now in
             record {
               notes_few = omega (arith, l.notes_few);
-              closings_end = m.closings_end;
-              openings_end = m.openings_end;
+              closings_end = m.closings_end ∙ l.closings_end;
+              openings_end = m.openings_end ∙ l.closings_end;
               closings_few = few-closings;
               order = m.order;
               writes =

@@ -16,6 +16,7 @@ use Rattle.std.proofs.lemmas.Option.{none-some, slice_get-get_or}
 use Rattle.std.proofs.Math.Seq.{take-append_seam, drop-append_seam}
 use Rattle.model.specs.Binding.{stands_alone}
 use Rattle.model.specs.Limits.{max_words}
+use Rattle.model.specs.Takes.{cell_of}
 use Rattle.model.specs.declared.Cell.{Cell}
 use Rattle.model.specs.declared.Header.{Header}
 use Rattle.laws.specs.JoinCount.{seams, seams_over, seams_step, lone-append, lone_few}
@@ -100,8 +101,9 @@ some_same : {X : Type 0} {x y : X} → Some x ≡ Some y → x ≡ y
 some_same {x = x} e = ap (λ o. unwrap_or o x) e
 
 -- the last of the words is that of the last cell
-last-words : (v w : List ℕ) (ws : List (List ℕ)) → Some w ≡ slice_get (v ∷ ws) (length ws) → last_or (cell_at v 0) (cells_of ws) ≡ cell_at w 0
-last-words v w [] e = ap (λ x. cell_at x 0) (sym (some_same e))
+last-words : (v w : List ℕ) (ws : List (List ℕ)) → Some w ≡ slice_get (v ∷ ws) (length ws) → last_or (cell_at v 0) (cells_of ws) ≡ cell_of w
+unfolding cell_at
+last-words v w [] e = ap cell_of (sym (some_same e))
 last-words v w (x ∷ xs) e = last-words x w xs e
 
 module _ (h : Header) (k : ℕ) where
@@ -123,9 +125,9 @@ module _ (h : Header) (k : ℕ) where
   no_second (v ∷ vs) [] e f = f ∙ none_is
   no_second vs (w ∷ ws) e f = absurd (none-some _ e)
 
-  pub lane_pair : (vs ws : List (List ℕ)) {v w : List ℕ} → Some v ≡ slice_get vs (length vs - 1) → Some w ≡ slice_get ws 0 → {c d : Cell} → c ≡ cell_at v 0 → d ≡ cell_at w 0
+  pub lane_pair : (vs ws : List (List ℕ)) {v w : List ℕ} → Some v ≡ slice_get vs (length vs - 1) → Some w ≡ slice_get ws 0 → {c d : Cell} → c ≡ cell_of v → d ≡ cell_of w
       → {r : SeamCount} → r ≡ count_of h (pair_at h k c d) → Counts vs ws r
-  unfolding seam_of pair_at
+  unfolding seam_of pair_at cell_at
   lane_pair [] ws e f is are g = absurd (none-some _ (sym e))
   lane_pair (x ∷ xs) [] e f is are g = absurd (none-some _ (sym f))
   lane_pair (x ∷ xs) (y ∷ ys) {v} {w} e f is are g =

@@ -52,28 +52,27 @@ unfoldable pub part_from : Header → Half → Note → List Cell → List Note
 unfolding note_part passed
 part_from h v n cs = note_part h v n (passed v n cs)
 
--- Room for a note's parts, and cells to look at, apart from the left part.
-pub record PartsAsks (s : List ℕ) (h : Header) (a b : Half) (n : Note) (end : ℕ) (at : Cursors) : Type 0 where
-  pub closings_end : at.closings.end ≡ end
-  pub openings_end : at.openings.end ≡ end
-  pub closings_in : 6 * at.closings.left ≤ end
+-- Room for a note's parts, and cells up to one place to look at, apart from the left part.
+pub record PartsAsks (s : List ℕ) (h : Header) (a b : Half) (n : Note) (at : Cursors) : Type 0 where
+  pub openings_end : at.openings.end ≡ at.closings.end
   pub order : at.openings.left ≤ at.closings.left
-  pub inside : end ≤ length s
-  pub left-room : at.to.left + 4 * length (part_from h a n (last_cells s end at.closings.left)) ≤ length s
-  pub right-room : at.to.right + 4 * length (part_from h b n (last_cells s end at.openings.left)) ≤ length s
-  pub apart : Apart (end - 6 * at.openings.left) (6 * at.openings.left) at.to.left (4 * length (part_from h a n (last_cells s end at.closings.left)))
+  pub inside : at.closings.end ≤ length s
+  pub left-room : at.to.left + 4 * length (part_from h a n (last_cells s at.closings.end at.closings.left)) ≤ length s
+  pub right-room : at.to.right + 4 * length (part_from h b n (last_cells s at.closings.end at.openings.left)) ≤ length s
+  pub apart : Apart (at.closings.end - 6 * at.openings.left) (6 * at.openings.left) at.to.left
+      (4 * length (part_from h a n (last_cells s at.closings.end at.closings.left)))
 
 -- Both parts written, and the cells that the note leaves to those behind it.
-pub record PartsPut (s : List ℕ) (h : Header) (a b : Half) (n : Note) (end : ℕ) (at : Cursors) (t : List ℕ) (r : Cursors) : Type 0 where
-  pub closings_end : r.closings.end ≡ end
-  pub openings_end : r.openings.end ≡ end
-  pub closings_are : last_cells s end r.closings.left ≡ passed a n (last_cells s end at.closings.left)
+pub record PartsPut (s : List ℕ) (h : Header) (a b : Half) (n : Note) (at : Cursors) (t : List ℕ) (r : Cursors) : Type 0 where
+  pub closings_end : r.closings.end ≡ at.closings.end
+  pub openings_end : r.openings.end ≡ at.closings.end
+  pub closings_are : last_cells s at.closings.end r.closings.left ≡ passed a n (last_cells s at.closings.end at.closings.left)
   pub closings_few : r.closings.left ≤ at.closings.left
-  pub openings_are : last_cells s end r.openings.left ≡ passed b n (last_cells s end at.openings.left)
+  pub openings_are : last_cells s at.closings.end r.openings.left ≡ passed b n (last_cells s at.closings.end at.openings.left)
   pub openings_few : r.openings.left ≤ at.openings.left
   pub order : r.openings.left ≤ r.closings.left
-  pub put : BothPut s at.to (gather note_words (part_from h a n (last_cells s end at.closings.left)))
-      (gather note_words (part_from h b n (last_cells s end at.openings.left))) t r.to
+  pub put : BothPut s at.to (gather note_words (part_from h a n (last_cells s at.closings.end at.closings.left)))
+      (gather note_words (part_from h b n (last_cells s at.closings.end at.openings.left))) t r.to
 
 pub record NotesAsks (s : List ℕ) (h : Header) (a b : Half) (from : Contents) (to : Ends) : Type 0 where
   pub placed : BothPlaced s from to (4 * length (notes_left h a s from from.notes.left from.cells.left)) (4 * length (notes_left h b s from from.notes.left from.cells.left))

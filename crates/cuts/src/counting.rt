@@ -12,9 +12,9 @@ ghost use Rattle.cuts.specs.Counting.{count_of, pair_at, SeamsAsks, CountsAsks, 
 use crate::halves::Contents;
 use crate::{halves, joined, seam};
 use model::{Cell, Header};
+use session::rules;
 use session::slices::CellWords;
 use session::view::SessionView;
-use session::{notes, rules};
 
 // ---- the pair of a lane
 
@@ -63,7 +63,7 @@ fn run_count(h: Header, beats: u32, first: &[CellWords], second: &[CellWords]) -
     let (Some(c), Some(d)) = (first.last(), second.first()) else {
         return SeamCount::default();
     };
-    pair_count(h, beats, notes::cell_at(c, 0), notes::cell_at(d, 0))
+    pair_count(h, beats, Cell::from(*c), Cell::from(*d))
 }
 
 // ---- all lanes

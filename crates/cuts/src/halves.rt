@@ -203,8 +203,8 @@ struct Split {
 
 // Both halves' parts of a note that crosses the line. The search for the opening cell goes on where the closing cell was found.
 fn put_crossed(s: &mut [u32], split: Split, n: Note, at: Cursors) -> Cursors
-    requires { PartsAsks s.old split.h split.before split.behind n at.closings.end at × (split.before.line < n.end) × (n.start < split.before.line) }
-    ensures { PartsPut s.old split.h split.before split.behind n at.closings.end at s.new result }
+    requires { PartsAsks s.old split.h split.before split.behind n at × (split.before.line < n.end) × (n.start < split.before.line) }
+    ensures { PartsPut s.old split.h split.before split.behind n at s.new result }
 {
     let Split { h, before, behind } = split;
     let end = at.closings.end;
@@ -224,8 +224,8 @@ fn put_crossed(s: &mut [u32], split: Split, n: Note, at: Cursors) -> Cursors
 
 // Both halves' parts of a note: all of it to the one or to the other, or a part to each.
 fn put_parts(s: &mut [u32], split: Split, n: Note, at: Cursors) -> Cursors
-    requires { PartsAsks s.old split.h split.before split.behind n at.closings.end at }
-    ensures { PartsPut s.old split.h split.before split.behind n at.closings.end at s.new result }
+    requires { PartsAsks s.old split.h split.before split.behind n at }
+    ensures { PartsPut s.old split.h split.before split.behind n at s.new result }
 {
     let line = split.before.line;
     if n.end <= line {

@@ -10,4 +10,5 @@ pub returns : goal.returns
 unfolding cell_at
 returns c =
     c.unwrap_or.ensures ∙ run_ends c.args.lane c.args.cells.now _
-    (IsFirst-from_position _ _ _ (Other c.args.lane) (Own c.args.lane) c.position-other.ensures.ran (YieldsList-from_slice _ c.iter.ensures.rest) (λ x q k. search (rules, tests)) (λ x q k. search (rules, tests)))
+    (IsFirst-from_position _ _ _ (Other c.args.lane) (Own c.args.lane) c.position-other.ensures.ran (YieldsList-from_slice _ c.iter.ensures.rest)
+    (λ x q k. search (rules, tests)) (λ x q k. search (rules, tests)))

@@ -11,4 +11,4 @@ returns-in_default c =
     ]
 
 pub returns : goal.returns
-returns c = lane_pair _ _ _ _ c.in-Some-Some.ensures.value c.in-Some-Some.ensures'.value c.cell_at.ensures c.cell_at-2.ensures c.pair_count.ensures
+returns c = lane_pair _ _ _ _ c.in-Some-Some.ensures.value c.in-Some-Some.ensures'.value c.from.ensures c.from-2.ensures c.pair_count.ensures

@@ -9,10 +9,18 @@ pub returns-in_default : goal.returns-in_default
 returns-in_default c = across_none _ _ _ _ _ _ _ c.arrays.ensures c.line_cells.ensures _ c.in_default.ensures.value
 
 pub returns-then-not-stands_alone : goal.returns-then-not-stands_alone
-returns-then-not-stands_alone c = across_hidden _ _ _ _ _ _ _ c.arrays.ensures c.line_cells.ensures c.in-Some.ensures.value c.from-c.ensures c.stands_alone.ensures _ (ap not c.if-not-stands_alone.true)
+returns-then-not-stands_alone c =
+    across_hidden _ _ _ _ _ _ _ c.arrays.ensures c.line_cells.ensures c.in-Some.ensures.value c.from-c.ensures c.stands_alone.ensures _
+    (ap not c.if-not-stands_alone.true)
 
 pub put-requires : goal.put-requires
-put-requires c = (omega arith, across_room _ _ _ _ _ _ _ c.arrays.ensures c.line_cells.ensures c.in-Some.ensures.value c.from-c.ensures c.stands_alone.ensures (ap not c.if-not-stands_alone.false) c.crossed-part.ensures _ c.requires.0)
+put-requires c =
+    let room =
+    across_room _ _ _ _ _ _ _ c.arrays.ensures c.line_cells.ensures c.in-Some.ensures.value c.from-c.ensures c.stands_alone.ensures
+    (ap not c.if-not-stands_alone.false) c.crossed-part.ensures _ c.requires.0 in
+    (omega arith, room)
 
 pub returns : goal.returns
-returns c = across_shown _ _ _ _ _ _ _ c.arrays.ensures c.line_cells.ensures c.in-Some.ensures.value c.from-c.ensures c.stands_alone.ensures (ap not c.if-not-stands_alone.false) c.crossed-part.ensures _ (rw c.into.ensures at c.put.ensures)
+returns c =
+    across_shown _ _ _ _ _ _ _ c.arrays.ensures c.line_cells.ensures c.in-Some.ensures.value c.from-c.ensures c.stands_alone.ensures
+    (ap not c.if-not-stands_alone.false) c.crossed-part.ensures _ (rw c.into.ensures at c.put.ensures)

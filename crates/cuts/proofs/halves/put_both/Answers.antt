@@ -11,16 +11,26 @@ pub shelf_at-r-requires : goal.shelf_at-r-requires
 shelf_at-r-requires c = place_asks (range c.requires.left_asks) c.requires.right_asks.to_below
 
 pub put_notes-middle-requires : goal.put_notes-middle-requires
-put_notes-middle-requires c = notes_asks c.requires (read c.requires.left_asks c.contents_of-from.ensures) c.shelf_at-l.ensures c.shelf_at-r.ensures
+put_notes-middle-requires c =
+    let from = read c.requires.left_asks c.contents_of-from.ensures in
+    notes_asks c.requires from c.shelf_at-l.ensures c.shelf_at-r.ensures
 
 pub put_cells-end-requires : goal.put_cells-end-requires
-put_cells-end-requires c = cells_asks c.requires (read c.requires.left_asks c.contents_of-from.ensures) c.shelf_at-l.ensures c.shelf_at-r.ensures c.put_notes-middle.ensures
+put_cells-end-requires c =
+    let from = read c.requires.left_asks c.contents_of-from.ensures in
+    cells_asks c.requires from c.shelf_at-l.ensures c.shelf_at-r.ensures c.put_notes-middle.ensures
 
 pub put_counts-requires : goal.put_counts-requires
-put_counts-requires c = left_counts c.requires (read c.requires.left_asks c.contents_of-from.ensures) c.shelf_at-l.ensures c.shelf_at-r.ensures c.put_notes-middle.ensures c.put_cells-end.ensures
+put_counts-requires c =
+    let from = read c.requires.left_asks c.contents_of-from.ensures in
+    left_counts c.requires from c.shelf_at-l.ensures c.shelf_at-r.ensures c.put_notes-middle.ensures c.put_cells-end.ensures
 
 pub put_counts-requires-2 : goal.put_counts-requires-2
-put_counts-requires-2 c = right_counts c.requires (read c.requires.left_asks c.contents_of-from.ensures) c.shelf_at-l.ensures c.shelf_at-r.ensures c.put_notes-middle.ensures c.put_cells-end.ensures c.put_counts.ensures
+put_counts-requires-2 c =
+    let from = read c.requires.left_asks c.contents_of-from.ensures in
+    right_counts c.requires from c.shelf_at-l.ensures c.shelf_at-r.ensures c.put_notes-middle.ensures c.put_cells-end.ensures c.put_counts.ensures
 
 pub returns : goal.returns
-returns c = both-put c.requires (read c.requires.left_asks c.contents_of-from.ensures) c.shelf_at-l.ensures c.shelf_at-r.ensures c.put_notes-middle.ensures c.put_cells-end.ensures c.put_counts.ensures c.put_counts-2.ensures
+returns c =
+    let from = read c.requires.left_asks c.contents_of-from.ensures in
+    both-put c.requires from c.shelf_at-l.ensures c.shelf_at-r.ensures c.put_notes-middle.ensures c.put_cells-end.ensures c.put_counts.ensures c.put_counts-2.ensures

@@ -9,13 +9,25 @@ pub shelf_at-at-requires : goal.shelf_at-at-requires
 shelf_at-at-requires c = place_asks (range c.requires.asks) c.requires.asks.to_below
 
 pub put_joined_notes-middle-requires : goal.put_joined_notes-middle-requires
-put_joined_notes-middle-requires c = notes_asks c.requires (read (first_read c.requires.asks) c.contents_of-a.ensures) (read (second_read c.requires.asks) c.contents_of-b.ensures) c.shelf_at-at.ensures c.beats_at-beats.ensures
+put_joined_notes-middle-requires c =
+    let first = read (first_read c.requires.asks) c.contents_of-a.ensures in
+    let second = read (second_read c.requires.asks) c.contents_of-b.ensures in
+    notes_asks c.requires first second c.shelf_at-at.ensures c.beats_at-beats.ensures
 
 pub put_joined_cells-end-requires : goal.put_joined_cells-end-requires
-put_joined_cells-end-requires c = cells_asks c.requires (read (first_read c.requires.asks) c.contents_of-a.ensures) (read (second_read c.requires.asks) c.contents_of-b.ensures) c.shelf_at-at.ensures c.beats_at-beats.ensures c.put_joined_notes-middle.ensures
+put_joined_cells-end-requires c =
+    let first = read (first_read c.requires.asks) c.contents_of-a.ensures in
+    let second = read (second_read c.requires.asks) c.contents_of-b.ensures in
+    cells_asks c.requires first second c.shelf_at-at.ensures c.beats_at-beats.ensures c.put_joined_notes-middle.ensures
 
 pub put_counts-requires : goal.put_counts-requires
-put_counts-requires c = counts_asks c.requires (read (first_read c.requires.asks) c.contents_of-a.ensures) (read (second_read c.requires.asks) c.contents_of-b.ensures) c.shelf_at-at.ensures c.beats_at-beats.ensures c.put_joined_notes-middle.ensures c.put_joined_cells-end.ensures
+put_counts-requires c =
+    let first = read (first_read c.requires.asks) c.contents_of-a.ensures in
+    let second = read (second_read c.requires.asks) c.contents_of-b.ensures in
+    counts_asks c.requires first second c.shelf_at-at.ensures c.beats_at-beats.ensures c.put_joined_notes-middle.ensures c.put_joined_cells-end.ensures
 
 pub returns : goal.returns
-returns c = join-put c.requires (read (first_read c.requires.asks) c.contents_of-a.ensures) (read (second_read c.requires.asks) c.contents_of-b.ensures) c.shelf_at-at.ensures c.beats_at-beats.ensures c.put_joined_notes-middle.ensures c.put_joined_cells-end.ensures c.beats_at.ensures c.put_counts.ensures
+returns c =
+    let first = read (first_read c.requires.asks) c.contents_of-a.ensures in
+    let second = read (second_read c.requires.asks) c.contents_of-b.ensures in
+    join-put c.requires first second c.shelf_at-at.ensures c.beats_at-beats.ensures c.put_joined_notes-middle.ensures c.put_joined_cells-end.ensures c.beats_at.ensures c.put_counts.ensures

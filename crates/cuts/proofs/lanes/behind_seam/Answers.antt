@@ -15,4 +15,6 @@ pub returns-then-n-lane-clause-back : goal.returns-then-n-lane-clause-back
 returns-then-n-lane-clause-back c = back_other _ _ _ _ c.in-Some.is c.if-not-over.false c.if-from-eq0.false c.args.from.fits (rw c.place.ensures at c.note_at-n.ensures) c.if-n-lane.true
 
 pub returns-clause-back : goal.returns-clause-back
-returns-clause-back c = rw c.keep.ensures.left_is (back-first _ _ _ _ c.in-Some.is c.if-not-over.false c.if-from-eq0.false c.args.from.fits (rw c.place.ensures at c.note_at-n.ensures) c.if-n-lane.false)
+returns-clause-back c =
+    rw c.keep.ensures.left_is
+    (back-first _ _ _ _ c.in-Some.is c.if-not-over.false c.if-from-eq0.false c.args.from.fits (rw c.place.ensures at c.note_at-n.ensures) c.if-n-lane.false)

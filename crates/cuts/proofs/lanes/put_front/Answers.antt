@@ -12,4 +12,10 @@ pub put_seam-at-requires : goal.put_seam-at-requires
 put_seam-at-requires c = put_asks c.args.lane c.requires c.put_note_run-notes.ensures.put c.behind_cell_run-cells.ensures.run _ c.seam_of-seam.ensures
 
 pub returns : goal.returns
-returns c = first-put c.args.lane c.requires c.put_note_run-notes.ensures.put c.behind_cell_run-cells.ensures.run _ c.seam_of-seam.ensures c.put_seam-at.ensures (first_behind c.args.lane c.requires c.put_note_run-notes.ensures.put c.behind_cell_run-cells.ensures.run) c.put_note_run-notes.ensures.end_is c.behind_cell_run-cells.ensures.end_is
+returns c =
+    let notes = c.put_note_run-notes.ensures in
+    let cells = c.behind_cell_run-cells.ensures in
+    first-put c.args.lane c.requires notes.put cells.run _ c.seam_of-seam.ensures c.put_seam-at.ensures
+    (first_behind c.args.lane c.requires notes.put cells.run)
+    notes.end_is
+    cells.end_is

@@ -10,7 +10,9 @@ pub put_lane-rests-requires : goal.put_lane-rests-requires
 put_lane-rests-requires c = lane_asks c.requires c.loop-lane.invariant c.loop-lane-test.true
 
 pub loop-lane-smaller : goal.loop-lane-smaller
-loop-lane-smaller c = omega (arith, walk_later c.requires _ (walk-lane c.requires c.loop-lane.invariant c.loop-lane-test.true c.put_lane-rests.ensures) c.least_lane-lane-in-loop-lane.ensures (omega (arith, c.loop-lane-test.true)), c.loop-lane-test.true)
+loop-lane-smaller c =
+    let next = walk-lane c.requires c.loop-lane.invariant c.loop-lane-test.true c.put_lane-rests.ensures in
+    omega (arith, walk_later c.requires _ next c.least_lane-lane-in-loop-lane.ensures (omega (arith, c.loop-lane-test.true)), c.loop-lane-test.true)
 
 pub loop-lane-preserved : goal.loop-lane-preserved
 loop-lane-preserved c = walk_next c.requires _ (walk-lane c.requires c.loop-lane.invariant c.loop-lane-test.true c.put_lane-rests.ensures) c.least_lane-lane-in-loop-lane.ensures

@@ -14,10 +14,14 @@ pub returns-then-d-lane : goal.returns-then-d-lane
 returns-then-d-lane c = seam_other c.args.at.tick_is c.requires c.if-second-eq0.false (rw c.place.ensures at c.cell_at-d.ensures) c.if-d-lane.true
 
 pub returns-then-not-bound_over : goal.returns-then-not-bound_over
-returns-then-not-bound_over c = seam_unbound c.args.at.tick_is c.requires c.if-second-eq0.false (rw c.place.ensures at c.cell_at-d.ensures) c.if-rest-first.false c.cell_at-c.ensures c.if-d-lane.false c.bound_over.ensures (ap not c.if-not-bound_over.true)
+returns-then-not-bound_over c =
+    seam_unbound c.args.at.tick_is c.requires c.if-second-eq0.false (rw c.place.ensures at c.cell_at-d.ensures) c.if-rest-first.false c.cell_at-c.ensures c.if-d-lane.false
+    c.bound_over.ensures (ap not c.if-not-bound_over.true)
 
 pub seam_over-requires : goal.seam_over-requires
 seam_over-requires c = over_asks c.args.at.tick_is c.requires c.if-second-eq0.false (rw c.place.ensures at c.cell_at-d.ensures) c.if-rest-first.false c.cell_at-c.ensures c.if-d-lane.false
 
 pub returns : goal.returns
-returns c = seam_bound c.args.at.tick_is c.requires c.if-second-eq0.false (rw c.place.ensures at c.cell_at-d.ensures) c.if-rest-first.false c.cell_at-c.ensures c.if-d-lane.false c.bound_over.ensures (ap not c.if-not-bound_over.false) c.seam_over.ensures
+returns c =
+    seam_bound c.args.at.tick_is c.requires c.if-second-eq0.false (rw c.place.ensures at c.cell_at-d.ensures) c.if-rest-first.false c.cell_at-c.ensures c.if-d-lane.false
+    c.bound_over.ensures (ap not c.if-not-bound_over.false) c.seam_over.ensures
