@@ -2,12 +2,12 @@
 use mathlib.Core.Bool.{Bool, true, false, cond, ◌&&◌}
 use mathlib.Core.List.{List}
 use mathlib.Core.Path.{◌≡◌, refl, ap, ◌∙◌}
-use Prim.Native.Nat.{ℕ, suc, ◌+◌, ◌*◌, ◌/◌, ◌%◌, ◌≤◌, ◌<◌}
+use Prim.Native.Nat.{ℕ, suc, ◌+◌, ◌-◌, ◌*◌, ◌/◌, ◌%◌, ◌≤◌, ◌<◌}
 use native.Mathlib.Numerals.{add-one}
 use native.Mathlib.Omega.{arith}
 use lib.Dec.{leb, ltb, eqb}
 use lib.ListN.{length, get_or}
-use borrow.Author.Tests.{lt-ltb, le-ltb, ltb-true, ltb-false, le-leb, lt-leb, eq-eqb, eqb-true, eqb-false, ne_eqb}
+use borrow.Author.Tests.{lt-ltb, le-ltb, ltb-true, ltb-false, le-leb, lt-leb, leb-true, leb-false, eq-eqb, eqb-true, eqb-false, ne_eqb}
 use Rattle.midi.specs.Numbers.{no_quantity, quantity, quantity_at}
 use Rattle.midi.specs.Events.{
   Place,
@@ -33,11 +33,12 @@ use Rattle.laws.specs.Booleans.{and_left, and_right}
 use Rattle.midi.proofs.Branches.{same_test}
 use lib.Bits.{bit_or, or_add_and, and_le_l, and_le_r}
 use Rattle.midi.proofs.Legal.{InRange}
-use Rattle.track.specs.Notes.{Plain, Running}
+use Rattle.track.specs.Notes.{Plain, Short, form_at, long}
 use Rattle.std.specs.Prelude.{Option, Some, None}
 use Rattle.track.specs.Reading.{lane_of, message_of, data_of, second_at, over_at, end_at}
+use Rattle.track.specs.declared.cursor.Form.{Form}
 use Rattle.track.specs.declared.cursor.Play.{Play}
-use Rattle.track.proofs.ReadGroups.{group_last}
+use Rattle.track.proofs.ReadGroups.{group_last, group_more}
 
 -- ---- data bytes
 
@@ -287,7 +288,7 @@ note-bytes s tick status q room note low soft m e =
     (rw z at (second_there s tick status (get_or s q 0) (q + 1) (data_low s (q + 1) (omega arith) soft) m e))
     ∙ channel_two s tick status q (data_low s q (omega arith) low) (λ k. omega arith)
 
--- a note of four bytes, and one of three
+-- a note of four bytes
 module _ (s : List ℕ) (p : Place) where
   abbrev at : ℕ
   at = p.at
@@ -308,16 +309,92 @@ module _ (s : List ℕ) (p : Place) where
       ∙ (rw z at (behind-own s tick p.running (at + 1) (omega (arith, w.inside)) (omega (arith, w.status))))
       ∙ event-behind s p (get_or s at 0) (at + 1) (one_time s at (omega (arith, w.inside)) w.time)
 
-  pub event_running : Running s p.at p.running → (m : Message) → m ≡ channel_message p.running (get_or s (p.at + 1) 0) (get_or s (p.at + 2) 0)
-      → event (place (p.at + 3) (p.tick + get_or s p.at 0) p.running) m ≡ event_at s p
-  event_running w m e =
-      let x : at + 1 + 1 ≡ at + 2 = omega arith in
-      let y : at + 1 + 2 ≡ at + 3 = omega arith in
-      let f : m ≡ channel_message p.running (get_or s (at + 1) 0) (get_or s (at + 1 + 1) 0) = rw x e in
-      let v : get_or s (at + 1 + 1) 0 < 128 = rw x w.velocity in
-      (rw y at (note-bytes s tick p.running (at + 1) (omega (arith, w.inside)) w.status w.key v m f))
-      ∙ behind_running s tick p.running (at + 1) (omega (arith, w.inside)) w.key (λ k. omega (arith, w.status))
-      ∙ event-behind s p (get_or s at 0) (at + 1) (one_time s at (omega (arith, w.inside)) w.time)
+-- the key of a note whose time has one or two groups is at most three bytes on
+pub form_inside : (s : List ℕ) (at running : ℕ) → (form_at s at running).at ≤ at + 3
+form_inside s at running = go (long s at) (leb 128 (cond (long s at) (get_or s (at + 2) 0) (get_or s (at + 1) 0)))
+  where
+    go : (a b : Bool) → at + 1 + cond a 1 0 + cond b 1 0 ≤ at + 3
+    go true true = omega arith
+    go true false = omega arith
+    go false true = omega arith
+    go false false = omega arith
+
+-- a time of two groups
+two_time : (s : List ℕ) (at : ℕ) → at + 1 < length s → 128 ≤ get_or s at 0 → get_or s (at + 1) 0 < 128
+    → quantity_at s at ≡ quantity ((get_or s at 0 - 128) * 128 + get_or s (at + 1) 0) (at + 2)
+two_time s at h goes low =
+    let z : 0 * 128 + (get_or s at 0 - 128) ≡ get_or s at 0 - 128 = omega arith in
+    let y : at + 1 + 1 ≡ at + 2 = omega arith in
+    rw z at (group_more 4 s at 0 (omega arith) (omega arith) goes) ∙ rw y at (group_last 3 s (at + 1) (get_or s at 0 - 128) (omega arith) h low)
+
+-- the data bytes of a note with a status stand at a position, and the note says m
+pub record Noted (s : List ℕ) (q status : ℕ) (m : Message) : Type 0 where
+  pub inside : q + 2 ≤ length s
+  pub note : status / 32 ≡ 4
+  pub key : get_or s q 0 < 128
+  pub velocity : get_or s (q + 1) 0 < 128
+  pub says : m ≡ channel_message status (get_or s q 0) (get_or s (q + 1) 0)
+
+noted_at : {s : List ℕ} {q status : ℕ} {m : Message} → Noted s q status m → (tick : ℕ) → event (place (q + 2) tick status) m ≡ channel_at s tick status q
+noted_at {s} {q} {status} {m} n tick = note-bytes s tick status q n.inside n.note n.key n.velocity m n.says
+
+-- a note behind its time: with a status of its own, or with the one in force
+module _ (s : List ℕ) (tick running q : ℕ) (m : Message) where
+  abbrev here : ℕ
+  here = get_or s q 0
+
+  noted_behind : (b : Bool) → leb 128 here ≡ b → Noted s (q + cond b 1 0) (cond b here running) m
+      → event (place (q + cond b 1 0 + 2) tick (cond b here running)) m ≡ behind_time s tick running q
+  noted_behind true e n =
+      noted_at n tick ∙ own_channel s tick here (q + 1) (omega (arith, n.note))
+      ∙ behind-own s tick running q (omega (arith, n.inside)) (leb-true 128 here e)
+  noted_behind false e n =
+      let z : q + 0 ≡ q = omega arith in
+      let low : Noted s q running m = rw z at n in
+      rw z (noted_at low tick ∙ behind_running s tick running q (omega (arith, low.inside)) low.key (λ k. omega (arith, low.note)))
+
+-- a note whose time has one or two groups
+module _ (s : List ℕ) (p : Place) (bytes : (i : ℕ) → get_or s i 0 < 256) where
+  abbrev first : ℕ
+  first = get_or s p.at 0
+
+  abbrev by_long : Bool → Form
+  by_long b =
+      let behind = cond b (get_or s (p.at + 2) 0) (get_or s (p.at + 1) 0) in
+      let own = leb 128 behind in
+      let last = cond b (get_or s (p.at + 1) 0) first in
+      record { last = last; time = cond b (first % 128) 0 * 128 + last; status = cond own behind p.running; at = p.at + 1 + cond b 1 0 + cond own 1 0 }
+
+  by_time : (m : Message) (b : Bool) → leb 128 first ≡ b → (by_long b).last < 128 → Noted s (by_long b).at (by_long b).status m
+      → event (place ((by_long b).at + 2) (p.tick + (by_long b).time) (by_long b).status) m ≡ event_at s p
+  by_time m true e low n =
+      let goes = leb-true 128 first e in
+      let z : p.at + 1 + 1 ≡ p.at + 2 = omega arith in
+      let y : first % 128 ≡ first - 128 = omega (arith, bytes p.at) in
+      let own = leb 128 (get_or s (p.at + 2) 0) in
+      let noted : Noted s (p.at + 2 + cond own 1 0) (cond own (get_or s (p.at + 2) 0) p.running) m = rw z at n in
+      let tick = p.tick + ((first - 128) * 128 + get_or s (p.at + 1) 0) in
+      rw (y, z)
+      (noted_behind s tick p.running (p.at + 2) m own refl noted
+      ∙ event-behind s p _ (p.at + 2) (two_time s p.at (omega (arith, n.inside)) goes low))
+  by_time m false e low n =
+      let short = leb-false 128 first e in
+      let z : p.at + 1 + 0 ≡ p.at + 1 = omega arith in
+      let y : 0 * 128 + first ≡ first = omega arith in
+      let own = leb 128 (get_or s (p.at + 1) 0) in
+      let noted : Noted s (p.at + 1 + cond own 1 0) (cond own (get_or s (p.at + 1) 0) p.running) m = rw z at n in
+      rw (y, z)
+      (noted_behind s (p.tick + first) p.running (p.at + 1) m own refl noted
+      ∙ event-behind s p first (p.at + 1) (one_time s p.at (omega (arith, n.inside)) (omega arith)))
+
+  abbrev form : Form
+  form = form_at s p.at p.running
+
+  pub event_short : Short s p.at p.running → (m : Message) → m ≡ channel_message form.status (get_or s form.at 0) (get_or s (form.at + 1) 0)
+      → event (place (form.at + 2) (p.tick + form.time) form.status) m ≡ event_at s p
+  event_short w m e =
+      by_time m (long s p.at) refl w.time
+      (record { inside = omega (arith, form_inside s p.at p.running, w.inside); note = w.status; key = w.key; velocity = w.velocity; says = e })
 
 -- what 8n and 9n say, by the velocity v of the note that they start
 module _ (status key velocity v : ℕ) (note : status / 32 ≡ 4) (low : key < 128) (e : v ≡ cond (ltb status 144) 0 velocity) where

@@ -1,8 +1,8 @@
 // A place in a track, and the event that stands there (question 12).
-ghost use Rattle.std.specs.Prelude.{◌≡◌, true, Some, cond, eqb, ◌*◌, ◌/◌, ◌≤◌, ◌<◌, ltb, length};
+ghost use Rattle.std.specs.Prelude.{◌≡◌, true, Some, cond, eqb, ◌+◌, ◌*◌, ◌/◌, ◌≤◌, ◌<◌, ltb, length};
 ghost use Rattle.model.specs.Limits.{max_beats, max_delta};
 ghost use Rattle.midi.specs.Events.{place, channel_message, channel_at, meta_at, sysex_at, own_status, behind_time, event_at};
-ghost use Rattle.track.specs.Notes.{Plain, Running};
+ghost use Rattle.track.specs.Notes.{Plain, Short, form_at};
 ghost use Rattle.track.specs.Reading.{message_of, place_of, event_of, data_of, second_at, over_at, end_at};
 
 use crate::quantities;
@@ -29,6 +29,15 @@ pub struct Play {
     pub channel: u32,
     pub key: u32,
     pub velocity: u32,
+}
+
+// What is read of a note before it is known that one stands there: the last byte of its time, its time, its status, the position of its key.
+#[derive(Clone, Copy)]
+struct Form {
+    last: u8,
+    time: u32,
+    status: u8,
+    at: usize,
 }
 
 // A legal event.
@@ -259,8 +268,8 @@ impl Cursor {
         }
     }
 
-    // The event at the cursor, of any kind. The notes of four and three bytes are read here, by functions so small that they are compiled
-    // into a loop over events; all others are read by a call.
+    // The event at the cursor, of any kind. Nearly all notes are read here, by functions so small that they are compiled into a loop over events;
+    // all others are read by a call.
     #[inline(always)]
     pub fn event(self, s: &[u8]) -> Option<Event>
         requires { (self.at ≤ length s.now) × (self.tick ≤ max_beats * max_delta) }
@@ -269,8 +278,8 @@ impl Cursor {
         if self.plain(s) {
             return Some(self.plain_event(s));
         }
-        if self.runs(s) {
-            return Some(self.running_event(s));
+        if self.short(s) {
+            return Some(self.short_event(s));
         }
         let e = any_event(s, self.at, self.tick, self.running)?;
         Some(e.again())
@@ -307,34 +316,60 @@ impl Cursor {
         Event::Next(next, Some(note_message(status, s[at + 2], s[at + 3])))
     }
 
-    // Does a note of three bytes stand here: a time of one group, key and velocity, with 8n or 9n in force? This and the next function are not one
-    // with the two above: where the status is read would be a switch in each.
-    pub fn runs(self, s: &[u8]) -> bool
-        requires { self.at ≤ length s.now }
-        ensures { result ≡ true → Running s.now self.at self.running }
+    // What stands here, read as a note of a time of one or two groups. All bytes that may be read are read first, so that the position of the next
+    // event waits for one load and for no branch: times of one and of two groups follow each other in no order that a processor could foresee.
+    #[inline(always)]
+    fn form(self, s: &[u8]) -> Form
+        requires { self.at + 5 ≤ length s.now }
+        ensures { result ≡ form_at s.now self.at self.running }
     {
         let at = self.at;
-        if s.len() < at + 3 {
+        let first = s[at];
+        let second = s[at + 1];
+        let third = s[at + 2];
+        let long = 128 <= first;
+        let last = if long { second } else { first };
+        let high = if long { first % 128 } else { 0 };
+        let behind = if long { third } else { second };
+        let own = 128 <= behind;
+        Form {
+            last,
+            time: high as u32 * 128 + last as u32,
+            status: if own { behind } else { self.running },
+            at: at + 1 + usize::from(long) + usize::from(own),
+        }
+    }
+
+    // Does a note stand here whose time has one or two groups, 8n or 9n its own status or the one in force? Nearly all notes of files are such. A
+    // note of four bytes is one too: it is asked for first, since most events of a file with a status for each are read faster so.
+    pub fn short(self, s: &[u8]) -> bool
+        requires { self.at ≤ length s.now }
+        ensures { result ≡ true → Short s.now self.at self.running }
+    {
+        if s.len() < self.at + 5 {
             return false;
         }
-        if !is_note(self.running) {
+        let form = self.form(s);
+        if !is_note(form.status) {
             return false;
         }
-        (s[at] | s[at + 1] | s[at + 2]) < 128
+        (form.last | s[form.at] | s[form.at + 1]) < 128
     }
 
     // The event of those bytes.
-    pub fn running_event(self, s: &[u8]) -> Event
-        requires { (self.tick ≤ max_beats * max_delta) × Running s.now self.at self.running }
+    pub fn short_event(self, s: &[u8]) -> Event
+        requires { (self.tick ≤ max_beats * max_delta) × Short s.now self.at self.running }
         ensures { event_of (Some result) ≡ event_at s.now (place_of self) }
     {
-        let at = self.at;
-        let status = self.running;
+        let form = self.form(s);
         let next = Cursor {
-            at: at + 3,
-            tick: self.tick + s[at] as u32,
-            running: status,
+            at: form.at + 2,
+            tick: self.tick + form.time,
+            running: form.status,
         };
-        Event::Next(next, Some(note_message(status, s[at + 1], s[at + 2])))
+        Event::Next(
+            next,
+            Some(note_message(form.status, s[form.at], s[form.at + 1])),
+        )
     }
 }
