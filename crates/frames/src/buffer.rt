@@ -20,14 +20,19 @@ impl<T: Copy + Default, const N: usize> Model for Buffer<T, N> {
 }
 
 impl<T: Copy + Default, const N: usize> Buffer<T, N> {
+    // The first of these items, so many.
+    pub fn first(items: [T; N], count: usize) -> Self
+        requires { count ≤ N }
+        ensures { result ≡ take count items }
+    {
+        Buffer { items, count }
+    }
+
     // None yet.
     pub fn new() -> Self
         ensures { result ≡ [] }
     {
-        Buffer {
-            items: [T::default(); N],
-            count: 0,
-        }
+        Self::first([T::default(); N], 0)
     }
 
     // The items that are collected.

@@ -11,7 +11,7 @@ const MAX_DIGITS: usize = 4000;
 // The bytes of the longest frame.
 pub const MAX_BYTES: usize = 2000;
 
-// The value of a digit; none for another character.
+// The value of a digit; none for another character. The library's `to_digit` takes lowercase digits too.
 fn digit_value(c: u8) -> Option<u8>
     ensures value { result ≡ digit_value c }
     ensures few { IfSome result (λ value. value < 16) }

@@ -8,7 +8,7 @@ use lib.Dec.{leb, eqb}
 use lib.ListN.{length, take, drop}
 use borrow.Author.Tests.{eq-eqb, le-leb, leb-true, lt-leb, ne_eqb}
 use Rattle.laws.specs.Booleans.{and_left, and_right}
-use Rattle.midi.specs.Numbers.{word16, word32}
+use Rattle.midi.specs.Numbers.{word32}
 use Rattle.midi.specs.Reading.{
   FileAnswer,
   refused,
@@ -30,24 +30,6 @@ use Rattle.reader.specs.Chunks.{refusal, chunk_place, track_place, read_place}
 -- ---- the header
 
 module _ (s : List ℕ) where
-  pub there_short : length s < 8 → false ≡ header_there s
-  unfolding header_there
-  there_short h = rw (lt-leb 8 (length s) h, header_there)
-
-  module _ (h : 8 ≤ length s) (name : ℕ) (e : name ≡ word32 s 0) where
-    pub there_other : (name ≡ MThd → ⊥) → false ≡ header_there s
-    unfolding header_there
-    there_other d = rw (le-leb 8 (length s) h, header_there, ne_eqb (word32 s 0) MThd (λ f. d (e ∙ f)))
-
-    module _ (k : name ≡ MThd) (size : ℕ) (f : size ≡ word32 s 4) where
-      pub there_small : size < 6 → false ≡ header_there s
-      unfolding header_there
-      there_small i = rw (le-leb 8 (length s) h, header_there, eq-eqb (word32 s 0) MThd (sym e ∙ k), lt-leb 6 (word32 s 4) (omega arith))
-
-      pub there_last : 6 ≤ size → leb (8 + size) (length s) ≡ header_there s
-      unfolding header_there
-      there_last i = rw (f, le-leb 8 (length s) h, header_there, eq-eqb (word32 s 0) MThd (sym e ∙ k), le-leb 6 (word32 s 4) (omega arith))
-
   -- a header that is there: its length is 6 or more, and all is inside the file
   pub there_long : header_there s ≡ true → (6 ≤ word32 s 4) × (8 + word32 s 4 ≤ length s)
   unfolding header_there
@@ -56,20 +38,6 @@ module _ (s : List ℕ) where
       let six = leb 6 (word32 s 4) in
       let last = leb (8 + word32 s 4) (length s) in
       (leb-true 6 (word32 s 4) (and_right name six (and_left (name && six) last e)), leb-true (8 + word32 s 4) (length s) (and_right (name && six) last e))
-
-module _ (δ : ℕ) (s : List ℕ) (format : ℕ) (e : format ≡ word16 s 8) where
-  pub fits_format : (format ≡ 0 → ⊥) → false ≡ header_fits δ s
-  unfolding header_fits
-  fits_format d = rw (ne_eqb (word16 s 8) 0 (λ f. d (e ∙ f)), header_fits)
-
-  module _ (z : format ≡ 0) (tracks : ℕ) (f : tracks ≡ word16 s 10) where
-    pub fits_tracks : (tracks ≡ 1 → ⊥) → false ≡ header_fits δ s
-    unfolding header_fits
-    fits_tracks d = rw (eq-eqb (word16 s 8) 0 (sym e ∙ z), header_fits, ne_eqb (word16 s 10) 1 (λ g. d (f ∙ g)))
-
-    pub fits_last : tracks ≡ 1 → (division : ℕ) → division ≡ word16 s 12 → eqb division δ ≡ header_fits δ s
-    unfolding header_fits
-    fits_last o d g = rw (g, eq-eqb (word16 s 8) 0 (sym e ∙ z), header_fits, eq-eqb (word16 s 10) 1 (sym f ∙ o))
 
 -- ---- one chunk
 

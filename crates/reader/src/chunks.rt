@@ -16,34 +16,23 @@ pub struct Found {
 }
 
 // Question 9: is MThd there, its length 6 or more and all inside the file?
+#[tactic(auto, unfolding(midi::specs::Reading::header_there))]
 fn header_there(s: &[u8]) -> bool
     ensures { result ≡ header_there s.now }
 {
-    if s.len() < 8 {
-        return false;
-    }
-    if bytes::word32(s, 0) != bytes::MTHD {
-        return false;
-    }
-    let size = bytes::word32(s, 4);
-    if size < 6 {
-        return false;
-    }
-    8 + size as usize <= s.len()
+    8 <= s.len()
+        && bytes::word32(s, 0) == bytes::MTHD
+        && 6 <= bytes::word32(s, 4)
+        && 8 + bytes::word32(s, 4) as usize <= s.len()
 }
 
 // Question 10: format 0, one track, division equal to δ?
+#[tactic(auto, unfolding(midi::specs::Reading::header_fits))]
 fn header_fits(delta: u32, s: &[u8]) -> bool
     requires { 14 ≤ length s.now }
     ensures { result ≡ header_fits delta s.now }
 {
-    if bytes::word16(s, 8) != 0 {
-        return false;
-    }
-    if bytes::word16(s, 10) != 1 {
-        return false;
-    }
-    bytes::word16(s, 12) == delta
+    bytes::word16(s, 8) == 0 && bytes::word16(s, 10) == 1 && bytes::word16(s, 12) == delta
 }
 
 // Question 11: the first MTrk from a position on, reached through complete chunks.

@@ -14,7 +14,8 @@ use crate::take::Take;
 use events::{tracks, windows};
 use track::putting;
 
-// Does the file of these events fit so many bytes? They are counted only where the bound of their track does not show it.
+// Does the file of these events fit so many bytes? They are counted only where the bound of their track does not show it. The test in `many` asks
+// the same bound, and then counts lanes window by window: one for both would take a closure that counts, and say its six tables again.
 fn fits(events: &[u64], end: u32, room: usize) -> bool
     requires { TableAsks events.now end }
     ensures { result ≡ leb (22 + length (track_left end 0 events.now)) room }
