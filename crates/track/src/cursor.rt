@@ -102,7 +102,8 @@ fn data_at(s: &[u8], q: usize) -> Option<u8>
 }
 
 // From here to `any_event` each function takes what its definition takes, track, tick and position, one by one: a struct of them would be
-// made anew at each call, since the position moves on, and passed through memory where the call is not put in.
+// made anew at each call, since the position moves on, and passed through memory where the call is not put in. `any_event`, which is called for
+// few events, takes a cursor's three numbers for the second reason.
 
 // The second data byte of a channel event, at q, and the event. Behind it its status is in force.
 fn second_data(s: &[u8], tick: u32, status: u8, key: u8, q: usize) -> Option<Event>
