@@ -6,6 +6,7 @@ ghost use Rattle.words.specs.Splice.{splice};
 ghost use Rattle.events.specs.Tracks.{track_left, track_most, events_left, TrackAsks};
 
 use crate::windows;
+use crate::windows::Reached;
 use order::notes::Notes;
 use order::taking;
 use track::putting;
@@ -41,18 +42,15 @@ pub fn length_left(
     let mut left = 2 * notes.count;
     let mut from: u64 = 0;
     let mut width = taking::first_width(notes.count, end);
-    let mut at: usize = 0;
-    let mut tick: u32 = 0;
+    let mut reached = Reached { at: 0, tick: 0 };
     while 0 < left {
         let w = taking::take_window(notes, n, starts, ends, next, a, b, places, from, width);
-        let r = windows::window_length(&a[..w.count], at, tick);
-        at = r.at;
-        tick = r.tick;
+        reached = windows::window_length(&a[..w.count], reached);
         left -= w.count;
         from += w.width;
         width = taking::next_width(w);
     }
-    at + putting::group_count(end - tick) as usize + 3
+    reached.at + putting::group_count(end - reached.tick) as usize + 3
 }
 
 // Writes the events of n lanes and the end of track at tick `end` from place `start` on. Returns the place behind them.
@@ -75,16 +73,13 @@ pub fn put_left(
     let mut left = 2 * notes.count;
     let mut from: u64 = 0;
     let mut width = taking::first_width(notes.count, end);
-    let mut at = start;
-    let mut tick: u32 = 0;
+    let mut reached = Reached { at: start, tick: 0 };
     while 0 < left {
         let w = taking::take_window(notes, n, starts, ends, next, a, b, places, from, width);
-        let r = windows::put_window(out, at, tick, &a[..w.count]);
-        at = r.at;
-        tick = r.tick;
+        reached = windows::put_window(out, reached, &a[..w.count]);
         left -= w.count;
         from += w.width;
         width = taking::next_width(w);
     }
-    putting::put_end(out, at, end - tick)
+    putting::put_end(out, reached.at, end - reached.tick)
 }
