@@ -18,10 +18,7 @@ pub fn track_most(count: usize, end: u32) -> usize
 {
     let further = 3 + 6 * count;
     let long = (end / 128) as usize;
-    if long < further {
-        return 4 + 8 * count + long;
-    }
-    4 + 8 * count + further
+    4 + 8 * count + further.min(long)
 }
 
 // How many bytes the events of n lanes take, with the end of track at tick `end`.
