@@ -1,6 +1,6 @@
 // The track of many notes: counted, and written, window by window in the order of the file.
-// The two loops stand apart as those of a window do. They count no index: a turn takes as many events as the next window holds. n lanes of tables
-// that are made once for any number of them.
+// The two loops stand apart as those of a window do. They count no index: a turn takes as many events as the next window holds. The lists of lanes
+// have just the lanes: where the events of each that are left begin and end, and room for where those behind a window begin.
 ghost use Rattle.std.specs.Prelude.{◌≡◌, ◌+◌, ◌≤◌, length};
 ghost use Rattle.words.specs.Splice.{splice};
 ghost use Rattle.events.specs.Tracks.{track_left, track_most, events_left, TrackAsks};
@@ -21,10 +21,9 @@ pub fn track_most(count: usize, end: u32) -> usize
     4 + 8 * count + further.min(long)
 }
 
-// How many bytes the events of n lanes take, with the end of track at tick `end`.
+// How many bytes the events of some lanes take, with the end of track at tick `end`.
 pub fn length_left(
     notes: Notes,
-    n: usize,
     starts: &mut [u32],
     ends: &[u32],
     next: &mut [u32],
@@ -33,9 +32,10 @@ pub fn length_left(
     places: &mut [u16],
     end: u32,
 ) -> usize
-    requires { TrackAsks notes n starts.old ends.now next.old a.old b.old places.old end × (length (track_left end 0 (events_left notes starts.old ends.now n)) ≤ 4294967295) }
-    ensures { result ≡ length (track_left end 0 (events_left notes.entry starts.old ends.now n)) }
+    requires { TrackAsks notes starts.old ends.now next.old a.old b.old places.old end × (length (track_left end 0 (events_left notes starts.old ends.now)) ≤ 4294967295) }
+    ensures { result ≡ length (track_left end 0 (events_left notes.entry starts.old ends.now)) }
 {
+    let n = starts.len();
     let mut left = 2 * notes.count;
     let mut from: u64 = 0;
     let mut width = taking::first_width(notes.count, end);
@@ -50,10 +50,9 @@ pub fn length_left(
     reached.at + putting::group_count(end - reached.tick) as usize + 3
 }
 
-// Writes the events of n lanes and the end of track at tick `end` from place `start` on. Returns the place behind them.
+// Writes the events of some lanes and the end of track at tick `end` from place `start` on. Returns the place behind them.
 pub fn put_left(
     notes: Notes,
-    n: usize,
     starts: &mut [u32],
     ends: &[u32],
     next: &mut [u32],
@@ -64,9 +63,10 @@ pub fn put_left(
     out: &mut [u8],
     start: usize,
 ) -> usize
-    requires { TrackAsks notes n starts.old ends.now next.old a.old b.old places.old end × (start + length (track_left end 0 (events_left notes starts.old ends.now n)) ≤ length out.old) }
-    ensures { (result ≡ start + length (track_left end 0 (events_left notes.entry starts.old ends.now n))) × (out.new ≡ splice out.old start (track_left end 0 (events_left notes.entry starts.old ends.now n))) }
+    requires { TrackAsks notes starts.old ends.now next.old a.old b.old places.old end × (start + length (track_left end 0 (events_left notes starts.old ends.now)) ≤ length out.old) }
+    ensures { (result ≡ start + length (track_left end 0 (events_left notes.entry starts.old ends.now))) × (out.new ≡ splice out.old start (track_left end 0 (events_left notes.entry starts.old ends.now))) }
 {
+    let n = starts.len();
     let mut left = 2 * notes.count;
     let mut from: u64 = 0;
     let mut width = taking::first_width(notes.count, end);
