@@ -135,8 +135,8 @@ module _ {keys ends : List ℕ} {n end : ℕ} {out₀ : List ℕ} {start : ℕ} 
 
 -- ---- the beginning
 
-module _ {notes : Notes} {n : ℕ} {pos ends to a b places : List ℕ} {end : ℕ} (w : TrackAsks notes n pos ends to a b places end) where
-  left-start : (width : ℕ) → Width width → Left (events_of notes) ends n end pos (2 * notes.count) 0 width 0
+module _ {notes : Notes} {pos ends to a b places : List ℕ} {end : ℕ} (w : TrackAsks notes pos ends to a b places end) where
+  left-start : (width : ℕ) → Width width → Left (events_of notes) ends (length pos) end pos (2 * notes.count) 0 width 0
   left-start width v =
       record {
         queues = w.queues;
@@ -148,9 +148,9 @@ module _ {notes : Notes} {n : ℕ} {pos ends to a b places : List ℕ} {end : �
       }
 
   pub counting_start : (at width : ℕ) → Width width
-      → Counting (events_of notes) ends n end (at + length (track_left end 0 (events_left notes pos ends n))) pos (2 * notes.count) 0 width at 0
+      → Counting (events_of notes) ends (length pos) end (at + length (track_left end 0 (events_left notes pos ends))) pos (2 * notes.count) 0 width at 0
   counting_start at width v = record { ahead = left-start width v; all = refl }
 
   pub putting_start : (out : List ℕ) (at width : ℕ) → Width width
-      → Putting (events_of notes) ends n end out at (track_left end 0 (events_left notes pos ends n)) pos (2 * notes.count) 0 width at 0 out
+      → Putting (events_of notes) ends (length pos) end out at (track_left end 0 (events_left notes pos ends)) pos (2 * notes.count) 0 width at 0 out
   putting_start out at width v = record { counting = counting_start at width v; long = refl; same = refl }

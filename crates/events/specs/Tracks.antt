@@ -20,19 +20,19 @@ pub data Timed (end : ℕ) : ℕ → List ℕ → Type 0 where
   over : {last : ℕ} → last ≤ end → Timed end last []
   next : {last k : ℕ} {ks : List ℕ} → last ≤ tick_of k → Timed end (tick_of k) ks → Timed end last (k ∷ ks)
 
--- The events of some notes that are left in n lanes.
-abbrev pub events_left : Notes → List ℕ → List ℕ → ℕ → List ℕ
-events_left notes pos ends n = merged (events_of notes) pos ends n
+-- The events of some notes that are left in some lanes: each lane's from its place up to its end.
+abbrev pub events_left : Notes → List ℕ → List ℕ → List ℕ
+events_left notes pos ends = merged (events_of notes) pos ends (length pos)
 
--- What writing the events of n lanes asks: the lanes' events, all those of the notes, up to the end of track.
-pub record TrackAsks (notes : Notes) (n : ℕ) (pos ends to a b places : List ℕ) (end : ℕ) : Type 0 where
+-- What writing the events of some lanes asks: the lanes' events, all those of the notes, up to the end of track.
+pub record TrackAsks (notes : Notes) (pos ends to a b places : List ℕ) (end : ℕ) : Type 0 where
   pub few : notes.count < 1048576
-  pub queues : Queues (events_of notes) pos ends n
-  pub all : length (events_left notes pos ends n) ≡ 2 * notes.count
-  pub timed : Timed end 0 (events_left notes pos ends n)
+  pub queues : Queues (events_of notes) pos ends (length pos)
+  pub all : length (events_left notes pos ends) ≡ 2 * notes.count
+  pub timed : Timed end 0 (events_left notes pos ends)
   pub short : end < 268435456
-  pub lanes : n ≤ 2048
-  pub room : n ≤ length to
+  pub lanes : length pos ≤ 2048
+  pub room : length pos ≤ length to
   pub here : 2048 ≤ length a
   pub there : 2048 ≤ length b
   pub table : 2048 ≤ length places

@@ -4,6 +4,7 @@ ghost use Rattle.words.specs.Splice.{splice};
 ghost use Rattle.events.specs.Windows.{window_bytes};
 ghost use Rattle.events.specs.Emitting.{start_of, events_of, events_to, Tables, Bounds, Noted, Ahead, BucketAhead};
 
+use crate::windows::Reached;
 use crate::{stored, windows};
 
 // Where the events of a bucket begin: where those of the bucket before it end.
@@ -31,7 +32,11 @@ fn put_bucket(
     let upto = ends[v] as usize;
     let events = &mut a[..upto - from];
     stored::read_bucket(out, from, v as u64 * width as u64 * 524288, events);
-    windows::put_window(out, starts[v] as usize, ticks[v], events);
+    let reached = Reached {
+        at: starts[v] as usize,
+        tick: ticks[v],
+    };
+    windows::put_window(out, reached, events);
 }
 
 // Writes the bytes of each bucket from `first` on to their place, the last bucket first: they start behind all events of earlier buckets.

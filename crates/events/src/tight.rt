@@ -6,14 +6,14 @@ ghost use Rattle.events.specs.Windows.{window_bytes, longest};
 ghost use Rattle.events.specs.Bucketing.{SortRoom, BucketAsks, BucketsAsk};
 ghost use Rattle.events.specs.Tight.{OneBucket, TightBucket, TightPut};
 
+use crate::windows::Reached;
 use crate::{bucketing, windows};
 
-// Where writing has come to: the first bucket whose events still stand in the output, the place for its bytes and the tick of the event before it.
+// Where writing has come to: the first bucket whose events still stand in the output, and how far the track has come before it.
 #[derive(Drop)]
 pub struct Front {
     pub bucket: usize,
-    pub at: usize,
-    pub tick: u32,
+    pub reached: Reached,
 }
 
 // Is each time of a bucket's events in order surely of one group? Within a bucket of at most 128 ticks it is; so only the time up to the first event
@@ -44,7 +44,10 @@ fn put_tight_bucket(
     requires { BucketAsks width v from upto (22 + 4 * from) tick out.old × SortRoom a.old b.old places.old }
     ensures { TightBucket width v from upto tick out.old out.new result }
 {
-    let at = 22 + 4 * from;
+    let start = Reached {
+        at: 22 + 4 * from,
+        tick,
+    };
     let end = 22 + 4 * upto;
     if upto <= from {
         return Some(tick);
@@ -52,12 +55,12 @@ fn put_tight_bucket(
     let events = &mut a[..upto - from];
     bucketing::read_sorted(out, width, v, from, events, b, places);
     if !times_short(events, width, tick) {
-        let reached = windows::window_length(events, at, tick);
+        let reached = windows::window_length(events, start);
         if end < reached.at {
             return None;
         }
     }
-    Some(windows::put_window(out, at, tick, events).tick)
+    Some(windows::put_window(out, start, events).tick)
 }
 
 // Writes the bytes of the first buckets over their events, as long as each event takes four bytes. Returns where it has come to. The last bucket is
@@ -71,7 +74,7 @@ pub fn put_tight(
     places: &mut [u16],
 ) -> Front
     requires { BucketsAsk width 0 22 0 ends.now out.old × (2048 ≤ length ends.now) × SortRoom a.old b.old places.old }
-    ensures { TightPut width ends.now out.old out.new result.bucket result.at result.tick }
+    ensures { TightPut width ends.now out.old out.new result.bucket result.reached.at result.reached.tick }
 {
     let all = ends[2047];
     let mut bucket = 2047;
@@ -91,9 +94,9 @@ pub fn put_tight(
             break;
         }
     }
+    let at = 22 + 4 * from;
     Front {
         bucket,
-        at: 22 + 4 * from,
-        tick,
+        reached: Reached { at, tick },
     }
 }

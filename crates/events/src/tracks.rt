@@ -1,11 +1,12 @@
 // The track of many notes: counted, and written, window by window in the order of the file.
-// The two loops stand apart as those of a window do. They count no index: a turn takes as many events as the next window holds. n lanes of tables
-// that are made once for any number of them.
+// The two loops stand apart as those of a window do. They count no index: a turn takes as many events as the next window holds. The lists of lanes
+// have just the lanes: where the events of each that are left begin and end, and room for where those behind a window begin.
 ghost use Rattle.std.specs.Prelude.{◌≡◌, ◌+◌, ◌≤◌, length};
 ghost use Rattle.words.specs.Splice.{splice};
 ghost use Rattle.events.specs.Tracks.{track_left, track_most, events_left, TrackAsks};
 
 use crate::windows;
+use crate::windows::Reached;
 use order::notes::Notes;
 use order::taking;
 use track::putting;
@@ -17,16 +18,12 @@ pub fn track_most(count: usize, end: u32) -> usize
 {
     let further = 3 + 6 * count;
     let long = (end / 128) as usize;
-    if long < further {
-        return 4 + 8 * count + long;
-    }
-    4 + 8 * count + further
+    4 + 8 * count + further.min(long)
 }
 
-// How many bytes the events of n lanes take, with the end of track at tick `end`.
+// How many bytes the events of some lanes take, with the end of track at tick `end`.
 pub fn length_left(
     notes: Notes,
-    n: usize,
     starts: &mut [u32],
     ends: &[u32],
     next: &mut [u32],
@@ -35,30 +32,27 @@ pub fn length_left(
     places: &mut [u16],
     end: u32,
 ) -> usize
-    requires { TrackAsks notes n starts.old ends.now next.old a.old b.old places.old end × (length (track_left end 0 (events_left notes starts.old ends.now n)) ≤ 4294967295) }
-    ensures { result ≡ length (track_left end 0 (events_left notes.entry starts.old ends.now n)) }
+    requires { TrackAsks notes starts.old ends.now next.old a.old b.old places.old end × (length (track_left end 0 (events_left notes starts.old ends.now)) ≤ 4294967295) }
+    ensures { result ≡ length (track_left end 0 (events_left notes.entry starts.old ends.now)) }
 {
+    let n = starts.len();
     let mut left = 2 * notes.count;
     let mut from: u64 = 0;
     let mut width = taking::first_width(notes.count, end);
-    let mut at: usize = 0;
-    let mut tick: u32 = 0;
+    let mut reached = Reached { at: 0, tick: 0 };
     while 0 < left {
         let w = taking::take_window(notes, n, starts, ends, next, a, b, places, from, width);
-        let r = windows::window_length(&a[..w.count], at, tick);
-        at = r.at;
-        tick = r.tick;
+        reached = windows::window_length(&a[..w.count], reached);
         left -= w.count;
         from += w.width;
         width = taking::next_width(w);
     }
-    at + putting::group_count(end - tick) as usize + 3
+    reached.at + putting::group_count(end - reached.tick) as usize + 3
 }
 
-// Writes the events of n lanes and the end of track at tick `end` from place `start` on. Returns the place behind them.
+// Writes the events of some lanes and the end of track at tick `end` from place `start` on. Returns the place behind them.
 pub fn put_left(
     notes: Notes,
-    n: usize,
     starts: &mut [u32],
     ends: &[u32],
     next: &mut [u32],
@@ -69,22 +63,20 @@ pub fn put_left(
     out: &mut [u8],
     start: usize,
 ) -> usize
-    requires { TrackAsks notes n starts.old ends.now next.old a.old b.old places.old end × (start + length (track_left end 0 (events_left notes starts.old ends.now n)) ≤ length out.old) }
-    ensures { (result ≡ start + length (track_left end 0 (events_left notes.entry starts.old ends.now n))) × (out.new ≡ splice out.old start (track_left end 0 (events_left notes.entry starts.old ends.now n))) }
+    requires { TrackAsks notes starts.old ends.now next.old a.old b.old places.old end × (start + length (track_left end 0 (events_left notes starts.old ends.now)) ≤ length out.old) }
+    ensures { (result ≡ start + length (track_left end 0 (events_left notes.entry starts.old ends.now))) × (out.new ≡ splice out.old start (track_left end 0 (events_left notes.entry starts.old ends.now))) }
 {
+    let n = starts.len();
     let mut left = 2 * notes.count;
     let mut from: u64 = 0;
     let mut width = taking::first_width(notes.count, end);
-    let mut at = start;
-    let mut tick: u32 = 0;
+    let mut reached = Reached { at: start, tick: 0 };
     while 0 < left {
         let w = taking::take_window(notes, n, starts, ends, next, a, b, places, from, width);
-        let r = windows::put_window(out, at, tick, &a[..w.count]);
-        at = r.at;
-        tick = r.tick;
+        reached = windows::put_window(out, reached, &a[..w.count]);
         left -= w.count;
         from += w.width;
         width = taking::next_width(w);
     }
-    putting::put_end(out, at, end - tick)
+    putting::put_end(out, reached.at, end - reached.tick)
 }

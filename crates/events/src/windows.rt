@@ -10,7 +10,7 @@ ghost use Rattle.events.specs.Windows.{window_bytes, last_tick, longest};
 use track::putting;
 
 // How far a track has come: the place behind its last event, and that event's tick.
-#[derive(Drop)]
+#[derive(Clone, Copy)]
 pub struct Reached {
     pub at: usize,
     pub tick: u32,
@@ -24,39 +24,31 @@ pub fn tick_of(event: u64) -> u32
     (event / 524288) as u32
 }
 
-// How far events come, from place `at` and the tick of the event before them.
-pub fn window_length(events: &[u64], at: usize, tick: u32) -> Reached
-    requires { Timed longest tick events.now × (at + length (window_bytes tick events.now) ≤ 4294967295) }
-    ensures { (result.at ≡ at + length (window_bytes tick events.now)) × (result.tick ≡ last_tick tick events.now) }
+// How far events come; `from` is how far the track has come before them.
+pub fn window_length(events: &[u64], from: Reached) -> Reached
+    requires { Timed longest from.tick events.now × (from.at + length (window_bytes from.tick events.now) ≤ 4294967295) }
+    ensures { (result.at ≡ from.at + length (window_bytes from.tick events.now)) × (result.tick ≡ last_tick from.tick events.now) }
 {
-    let mut place = at;
-    let mut last = tick;
+    let mut reached = from;
     for event in events {
-        let next = tick_of(*event);
-        place += putting::group_count(next - last) as usize + 3;
-        last = next;
+        let tick = tick_of(*event);
+        reached.at += putting::group_count(tick - reached.tick) as usize + 3;
+        reached.tick = tick;
     }
-    Reached {
-        at: place,
-        tick: last,
-    }
+    reached
 }
 
-// Writes events from place `at` on, behind an event at `tick`. Returns how far they come.
-pub fn put_window(out: &mut [u8], at: usize, tick: u32, events: &[u64]) -> Reached
-    requires { Timed longest tick events.now × (at + length (window_bytes tick events.now) ≤ length out.old) }
-    ensures reached { (result.at ≡ at + length (window_bytes tick events.now)) × (result.tick ≡ last_tick tick events.now) }
-    ensures bytes { out.new ≡ splice out.old at (window_bytes tick events.now) }
+// Writes events; `from` is how far the track has come before them. Returns how far they come.
+pub fn put_window(out: &mut [u8], from: Reached, events: &[u64]) -> Reached
+    requires { Timed longest from.tick events.now × (from.at + length (window_bytes from.tick events.now) ≤ length out.old) }
+    ensures reached { (result.at ≡ from.at + length (window_bytes from.tick events.now)) × (result.tick ≡ last_tick from.tick events.now) }
+    ensures bytes { out.new ≡ splice out.old from.at (window_bytes from.tick events.now) }
 {
-    let mut place = at;
-    let mut last = tick;
+    let mut reached = from;
     for event in events {
-        let next = tick_of(*event);
-        place = putting::put_event(out, place, next - last, *event);
-        last = next;
+        let tick = tick_of(*event);
+        reached.at = putting::put_event(out, reached.at, tick - reached.tick, *event);
+        reached.tick = tick;
     }
-    Reached {
-        at: place,
-        tick: last,
-    }
+    reached
 }

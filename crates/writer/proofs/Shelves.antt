@@ -5,9 +5,11 @@ use Prim.Native.Nat.{ℕ, suc, ◌*◌, ◌≤◌, ◌<◌}
 use native.Mathlib.Nat.{mul-le-mul_right}
 use native.Mathlib.Omega.{arith}
 use lib.Dec.{leb}
-use lib.ListN.{length, get_or}
+use lib.ListN.{length, get_or, take}
+use lib.Seq.{get_or-take, length-take-le}
 use borrow.Author.Tests.{leb-true}
 use Rattle.radix.specs.Sort as S
+use Rattle.order.specs.Queues.{merged, left_same, apart-part}
 use Rattle.order.specs.Events.{end_at, events, Follows, Follows.lanes, Follows.ticks, Ordered, length-events}
 use Rattle.order.specs.Runs.{Split, split_length}
 use Rattle.model.specs.Lists.{gather}
@@ -143,20 +145,43 @@ module _ {s : List ℕ} {count δ beats : ℕ} (a : FileAsks s count δ beats) w
   timed = timed_from (beats * δ) 0 (S.sort keys) (omega arith) (S.sort_ascending keys) (least_zero (S.sort keys))
       (rw sorted_is (all-keys (λ k. tick_of k ≤ beats * δ) (in_order (gather events_of notes)) (all-in_order (λ e. tick_of (key_of e) ≤ beats * δ) (gather events_of notes) (all-within δ beats notes fair))))
 
+-- ---- the places of just the lanes that have notes
+
+pub lanes_split : {s : List ℕ} {count : ℕ} {pos ends : List ℕ} {n : ℕ} → Split s count pos ends n → Split s count (take n pos) (take n ends) (length (take n pos))
+unfolding merged
+lanes_split {s} {count} {pos} {ends} {n} w =
+    let q = w.queues in
+    let p : length (take n pos) ≡ n = length-take-le n pos q.places in
+    rw p
+    (record {
+      queues = record {
+        places = omega (arith, p);
+        limits = omega (arith, length-take-le n ends q.limits);
+        each = λ l h. rw (get_or-take n pos l 0 h, get_or-take n ends l 0 h) (q.each l h);
+        apart = apart-part q.apart (λ l h. omega (arith, get_or-take n pos l 0 h)) (λ l h. omega (arith, get_or-take n ends l 0 h));
+      };
+      all = ap S.sort
+          (left_same (events s 0 count) (take n pos) pos (take n ends) ends 0 n (λ i a b. get_or-take n pos i 0 (omega arith)) (λ i a b. get_or-take n ends i 0 (omega arith)))
+          ∙ w.all;
+    })
+
 -- a take's
-module _ (take : Take) where
-  pub track_asks : {pos ends to a b places : List ℕ} {n : ℕ} → Split take.notes.words.now take.notes.count pos ends n → n ≤ 2048
-      → 2048 ≤ length to → 2048 ≤ length a → 2048 ≤ length b → 2048 ≤ length places → TrackAsks take.notes n pos ends to a b places (take.beats * take.delta)
-  track_asks w l room here there table =
-      let a = take.sound in
+module _ (t : Take) where
+  pub track_asks : {pos ends a b places : List ℕ} {n : ℕ} → Split t.notes.words.now t.notes.count pos ends n → n ≤ 2048
+      → (to : List ℕ) → 2048 ≤ length to → 2048 ≤ length a → 2048 ≤ length b → 2048 ≤ length places
+      → TrackAsks t.notes (take n pos) (take n ends) (take n to) a b places (t.beats * t.delta)
+  track_asks {pos} {n = n} w l to room here there table =
+      let a = t.sound in
+      let v = lanes_split w in
+      let p : length (take n pos) ≡ n = length-take-le n pos w.queues.places in
       record {
         few = a.few;
-        queues = w.queues;
-        all = split_length w;
-        timed = rw w.all (timed a);
+        queues = v.queues;
+        all = split_length v;
+        timed = rw v.all (timed a);
         short = omega (arith, end_short a);
-        lanes = l;
-        room = omega arith;
+        lanes = omega (arith, p);
+        room = omega (arith, p, length-take-le n to (omega arith));
         here = here;
         there = there;
         table = table;

@@ -11,6 +11,7 @@ ghost use Rattle.writer.specs.Takes.{file};
 
 use crate::files;
 use crate::take::Take;
+use events::windows::Reached;
 use events::{tracks, windows};
 use track::putting;
 
@@ -23,7 +24,7 @@ fn fits(events: &[u64], end: u32, room: usize) -> bool
     if 22 + tracks::track_most(events.len() / 2, end) <= room {
         return true;
     }
-    let reached = windows::window_length(events, 22, 0);
+    let reached = windows::window_length(events, Reached { at: 22, tick: 0 });
     reached.at + putting::group_count(end - reached.tick) as usize + 3 <= room
 }
 
@@ -32,7 +33,7 @@ fn put_track(out: &mut [u8], events: &[u64], end: u32) -> usize
     requires { TableAsks events.now end × (22 + length (track_left end 0 events.now) ≤ length out.old) }
     ensures { (result ≡ 22 + length (track_left end 0 events.now)) × (out.new ≡ splice out.old 22 (track_left end 0 events.now)) }
 {
-    let reached = windows::put_window(out, 22, 0, events);
+    let reached = windows::put_window(out, Reached { at: 22, tick: 0 }, events);
     putting::put_end(out, reached.at, end - reached.tick)
 }
 

@@ -26,7 +26,10 @@ fn fits(
         return true;
     }
     let n = order::runs(take.notes, starts, ends);
-    let length = tracks::length_left(take.notes, n, starts, ends, next, a, b, places, end);
+    let starts = &mut starts[..n];
+    let ends = &ends[..n];
+    let next = &mut next[..n];
+    let length = tracks::length_left(take.notes, starts, ends, next, a, b, places, end);
     22 + length <= room
 }
 
@@ -49,9 +52,10 @@ pub fn put_many(
     }
     let end = take.end();
     let n = order::runs(take.notes, starts, ends);
-    let behind = tracks::put_left(
-        take.notes, n, starts, ends, next, a, b, places, end, out, 22,
-    );
+    let starts = &mut starts[..n];
+    let ends = &ends[..n];
+    let next = &mut next[..n];
+    let behind = tracks::put_left(take.notes, starts, ends, next, a, b, places, end, out, 22);
     files::put_header(out, take.delta, (behind - 22) as u32);
     Some(behind)
 }

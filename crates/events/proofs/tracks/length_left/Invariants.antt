@@ -8,7 +8,8 @@ use Rattle.events.proofs.tracks.length_left.Given as goal
 
 abbrev pub invariant-loop-left : goal.invariant-loop-left
 invariant-loop-left l =
-    Counting (events_of l.notes) l.ends l.n l.end (l.initial.at + length (track_left l.end 0 (events_left l.notes l.initial.starts l.ends l.n))) l.starts l.left l.from l.width l.at l.tick
+    Counting (events_of l.notes) l.ends l.n l.end (l.initial.reached.at + length (track_left l.end 0 (events_left l.notes l.initial.starts l.ends)))
+    l.starts l.left l.from l.width l.reached.at l.reached.tick
 
 abbrev pub decreases-loop-left : goal.decreases-loop-left
 decreases-loop-left l =
