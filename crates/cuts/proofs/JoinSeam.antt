@@ -10,7 +10,7 @@ use lib.ListN.{length, length-append}
 use Rattle.words.specs.Splice.{splice}
 use Rattle.words.specs.Writes.{Writes, writes-run, writes-done, writes_same}
 use Rattle.words.specs.Parts.{Same}
-use Rattle.model.specs.Binding.{bound, stands_alone}
+use Rattle.model.specs.Binding.{stands_alone}
 use Rattle.model.specs.Lists.{gather}
 use Rattle.model.specs.Takes.{note_words}
 use Rattle.model.specs.declared.Header.{Header}
@@ -18,7 +18,7 @@ use Rattle.model.specs.declared.Note.{Note}
 use Rattle.model.specs.declared.Cell.{Cell}
 use Rattle.laws.specs.JoinWalk.{run_of, rest_of, lane_ahead, least_lane, note_run, note_rest, cell_run, cell_rest}
 use Rattle.laws.specs.Relations.{All}
-use Rattle.laws.specs.Seam.{bound_at, ending_at, starting_at0, up_to, from_on, join_over}
+use Rattle.laws.specs.Seam.{ending_at, starting_at0, up_to, from_on, join_over}
 use Rattle.laws.specs.SeamWalk.{last_or, note_later}
 use Rattle.laws.specs.Sessions.{length-note_words}
 use Rattle.session.specs.Reading.{note_at, cell_at, last_notes, last_cells}
@@ -194,35 +194,6 @@ module _ (s : List ℕ) (end k : ℕ) where
   note-ahead more fits {n} is =
       let first : last_notes s end k ≡ n ∷ last_notes s end (k - 1) = last_notes_lem s end k more fits ∙ rw (← is) in
       sym (ahead-first (λ n. n.lane) 0 n (last_notes s end (k - 1))) ∙ ap (lane_ahead (λ n. n.lane)) (sym first)
-
--- ---- two cells on the line
-
-module _ (h : Header) (k : ℕ) (c d : Cell) where
-  pub over_not_closing : (c.side ≡ 1 → ⊥) → false ≡ bound_at h k c d
-  unfolding bound_at
-  over_not_closing n = rw (ne_eqb c.side 1 n)
-
-  module _ (e : c.side ≡ 1) where
-    pub over_not_last : (c.beat + 1 ≡ k → ⊥) → false ≡ bound_at h k c d
-    unfolding bound_at
-    over_not_last n = rw (eq-eqb c.side 1 e, ne_eqb (suc c.beat) k (omega arith))
-
-    module _ (f : c.beat + 1 ≡ k) where
-      last_beat : eqb (suc c.beat) k ≡ true
-      last_beat = eq-eqb (suc c.beat) k (omega arith)
-
-      pub over_not_opening : (d.side ≡ 0 → ⊥) → false ≡ bound_at h k c d
-      unfolding bound_at
-      over_not_opening n = rw (eq-eqb c.side 1 e, last_beat, ne_eqb d.side 0 n)
-
-      module _ (g : d.side ≡ 0) where
-        pub over_not_first : (d.beat ≡ 0 → ⊥) → false ≡ bound_at h k c d
-        unfolding bound_at
-        over_not_first n = rw (eq-eqb c.side 1 e, last_beat, eq-eqb d.side 0 g, ne_eqb d.beat 0 n)
-
-        pub over_bound : d.beat ≡ 0 → bound h c d ≡ bound_at h k c d
-        unfolding bound_at
-        over_bound z = rw (eq-eqb c.side 1 e, last_beat, eq-eqb d.side 0 g, eq-eqb d.beat 0 z)
 
 -- ---- the note that goes over the line
 

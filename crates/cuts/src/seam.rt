@@ -52,23 +52,15 @@ pub fn behind_cell_run(s: &[u32], cells: LastCells, lane: u32) -> LastCells
 
 // Are two cells on the line between the takes, behind so many beats of the first, and bound? A cell's side stays a word, since a session from C
 // may hold any.
+#[tactic(auto, unfolding(laws::specs::Seam::bound_at))]
 pub fn bound_over(h: Header, beats: u32, c: Cell, d: Cell) -> bool
     ensures { result ≡ bound_at h beats c d }
 {
-    // Tried as one conjunction: its branches join before the last test, and the proof did not close.
-    if c.side != 1 {
-        return false;
-    }
-    if (c.beat as u64) + 1 != (beats as u64) {
-        return false;
-    }
-    if d.side != 0 {
-        return false;
-    }
-    if d.beat != 0 {
-        return false;
-    }
-    rules::is_bound(h, c, d)
+    c.side == 1
+        && (c.beat as u64) + 1 == (beats as u64)
+        && d.side == 0
+        && d.beat == 0
+        && rules::is_bound(h, c, d)
 }
 
 // ---- the note that goes over the line
