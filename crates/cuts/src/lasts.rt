@@ -7,7 +7,7 @@ ghost use Rattle.std.specs.Prelude.{◌≡◌, ◌-◌, ◌*◌, ◌≤◌};
 pub struct Last<const WORDS: usize> {
     pub end: usize,
     pub left: usize,
-    ghost fits: { WORDS * left ≤ end },
+    pub ghost fits: { WORDS * left ≤ end },
 }
 
 // Notes have four words, and cells six.
