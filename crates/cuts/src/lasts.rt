@@ -1,6 +1,8 @@
 // The last notes, or the last cells, of those that stand up to a place.
 ghost use Rattle.std.specs.Prelude.{◌≡◌, ◌-◌, ◌*◌, ◌≤◌};
 
+use model::Header;
+
 // The last `left` of those that stand up to place `end`, of so many words each. Places and no slice: split and join write into the session
 // that they read from, which C passes as one list.
 #[derive(Clone, Copy)]
@@ -35,7 +37,7 @@ impl<const WORDS: usize> Last<WORDS> {
         ensures { result ≡ lane_of_last WORDS s.now self.entry.end self.entry.left }
     {
         if self.left == 0 {
-            return 2048;
+            return Header::LANES;
         }
         s[self.place()]
     }
