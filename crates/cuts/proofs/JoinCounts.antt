@@ -2,7 +2,7 @@
 use mathlib.Core.Path.{◌≡◌, refl, sym, ap, ◌∙◌}
 use mathlib.Core.Bool.{Bool, true, false, not}
 use mathlib.Core.List.{List, [], ◌∷◌, ◌++◌}
-use Prim.Native.Nat.{ℕ, suc, ◌+◌, ◌-◌, ◌*◌, ◌≤◌, ◌<◌, min}
+use Prim.Native.Nat.{ℕ, zero, suc, ◌+◌, ◌-◌, ◌*◌, ◌≤◌, ◌<◌, min}
 use native.Mathlib.Omega.{arith}
 use borrow.Author.Tests.{eqb-true, eqb-false, leb-true, leb-false, not-true, not-false}
 use lib.Dec.{eqb, leb}
@@ -10,6 +10,7 @@ use lib.ListN.{length, length-append, take, drop}
 use Rattle.std.specs.Prelude.{Option, Some, None, MatchOption}
 use Rattle.std.specs.List.{slice_get, AllWithin, HoldsAt, take-map, drop-map}
 use Rattle.std.specs.Option.{unwrap_or}
+use Rattle.std.specs.Simd.{first_chunks}
 use Rattle.std.proofs.lemmas.Iterator.{index_from_first}
 use Rattle.std.proofs.lemmas.List.{length-map}
 use Rattle.std.proofs.lemmas.Option.{none-some, slice_get-get_or}
@@ -23,8 +24,10 @@ use Rattle.laws.specs.JoinCount.{seams, seams_over, seams_step, lone-append, lon
 use Rattle.laws.specs.JoinWalk.{From, cell_rest, cell_run, from-ahead, lane_ahead, rest_from, run-rest}
 use Rattle.laws.specs.Seam.{bound_at, lone, one, seam_of}
 use Rattle.laws.specs.SeamWalk.{last_or}
-use Rattle.session.specs.Reading.{cell_at}
+use Rattle.session.specs.Reading.{cell_at, last_cells}
 use Rattle.session.specs.Sliced.{cells_of}
+use Rattle.session.proofs.Lasts.{last_cells_lem, length_last}
+use Rattle.session.proofs.Wholes.{whole_cells}
 use Rattle.cuts.specs.declared.counting.SeamCount.{SeamCount}
 use Rattle.cuts.specs.Counting.{count_of, pair_at}
 use Rattle.cuts.proofs.JoinSeam.{nothing, run_go, run_none, run_stop}
@@ -55,6 +58,16 @@ module _ (h : Header) (k : ℕ) (c d : Cell) {b : Bool} (is : b ≡ bound_at h k
       rw (sym is ∙ not-false b t, all)
 
 -- ---- the cells of a lane
+
+-- the last cells behind so many of them
+cells_dropped : (s : List ℕ) (end k n : ℕ) → 6 * k ≤ end → n ≤ k → drop n (last_cells s end k) ≡ last_cells s end (k - n)
+cells_dropped s end k zero fits few = ap (last_cells s end) (omega arith)
+cells_dropped s end zero (suc n) fits few = absurd (omega arith)
+cells_dropped s end (suc k) (suc n) fits few =
+    let one : suc k - 1 ≡ k = omega arith in
+    let left : k - n ≡ suc k - suc n = omega arith in
+    ap (drop (suc n)) (last_cells_lem s end (suc k) (omega arith) fits) ∙ ap (λ (i : ℕ). drop n (last_cells s end i)) one ∙ cells_dropped s end k n (omega arith) (omega arith)
+    ∙ ap (last_cells s end) left
 
 -- the words of a cell of another lane, and of one of the lane
 abbrev pub Other : ℕ → List ℕ → Type 0
@@ -92,8 +105,23 @@ module _ (lane : ℕ) where
     pub run_taken : cells_of (take n ws) ≡ run
     run_taken = sym (take-map (λ w. cell_at w 0) n ws) ∙ ap (take n) (sym both) ∙ ap (λ (i : ℕ). take i (run ++ rest)) is ∙ take-append_seam run rest
 
+    behind : drop n (cells_of ws) ≡ rest
+    behind = ap (drop n) (sym both) ∙ ap (λ (i : ℕ). drop i (run ++ rest)) is ∙ drop-append_seam run rest
+
     pub run_dropped : cells_of (drop n ws) ≡ rest
-    run_dropped = sym (drop-map (λ w. cell_at w 0) n ws) ∙ ap (drop n) (sym both) ∙ ap (λ (i : ℕ). drop i (run ++ rest)) is ∙ drop-append_seam run rest
+    run_dropped = sym (drop-map (λ w. cell_at w 0) n ws) ∙ behind
+
+    -- they are cut from the last cells up to a place
+    module _ (s : List ℕ) (end left : ℕ) (fits : 6 * left ≤ end) (cut : ws ≡ first_chunks 6 left (drop (end - 6 * left) s)) where
+      last : cells_of ws ≡ last_cells s end left
+      unfolding last_cells
+      last = ap cells_of cut ∙ whole_cells left (drop (end - 6 * left) s)
+
+      pub run_few : n ≤ left
+      run_few = omega (arith, run_inside, length-map ws (λ w. cell_at w 0), ap length last, length_last s end left)
+
+      pub run_behind : last_cells s end (left - n) ≡ cell_rest lane (last_cells s end left)
+      run_behind = sym (cells_dropped s end left n fits run_few) ∙ ap (drop n) (sym last) ∙ behind ∙ ap (cell_rest lane) last
 
 -- ---- the pair of a lane
 

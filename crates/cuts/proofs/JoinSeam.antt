@@ -16,13 +16,13 @@ use Rattle.model.specs.Takes.{note_words}
 use Rattle.model.specs.declared.Header.{Header}
 use Rattle.model.specs.declared.Note.{Note}
 use Rattle.model.specs.declared.Cell.{Cell}
-use Rattle.laws.specs.JoinWalk.{run_of, rest_of, least_lane, note_run, note_rest, cell_run, cell_rest}
+use Rattle.laws.specs.JoinWalk.{run_of, rest_of, least_lane, note_run, note_rest, cell_run}
 use Rattle.laws.specs.Relations.{All}
 use Rattle.laws.specs.Seam.{ending_at, starting_at0, up_to, from_on, join_over}
 use Rattle.laws.specs.SeamWalk.{last_or, note_later}
 use Rattle.laws.specs.Sessions.{length-note_words}
 use Rattle.session.specs.Reading.{note_at, cell_at, last_notes, last_cells}
-use Rattle.session.proofs.Lasts.{no_notes, no_cells, last_notes_lem, last_cells_lem}
+use Rattle.session.proofs.Lasts.{no_notes, last_notes_lem, last_cells_lem}
 use Rattle.std.specs.Prelude.{Some}
 use Rattle.cuts.specs.declared.halves.Contents.{Contents}
 use Rattle.cuts.specs.declared.seam.Seam.{Seam}
@@ -152,25 +152,6 @@ module _ {s₀ : List ℕ} {to lane ticks end left₀ : ℕ} (fits : 4 * left₀
         let none : later_run lane ticks s₀ end left ≡ [] = ap (λ (ns : List Note). map (note_later ticks) (note_run lane ns)) no ∙ ap (map (note_later ticks)) (run_none (λ n. n.lane) lane) in
         let w = rw none at l.writes in
         rw is (record { words = writes-done w; rest = no ∙ sym (rest-none (λ n. n.lane) lane) ∙ ap (note_rest lane) (sym no) ∙ l.rest; count = omega (arith, w.place, sized, l.place) })
-
--- ---- the cells of a lane
-
-module _ (s : List ℕ) (end lane : ℕ) where
-  module _ (k : ℕ) (more : 0 < k) (fits : 6 * k ≤ end) {c : Cell} (is : c ≡ cell_at s (end - 6 * k)) where
-    cells-first : last_cells s end k ≡ c ∷ last_cells s end (k - 1)
-    cells-first = last_cells_lem s end k more fits ∙ rw (← is)
-
-    pub cells_go : c.lane ≡ lane → cell_rest lane (last_cells s end (k - 1)) ≡ cell_rest lane (last_cells s end k)
-    cells_go e = sym (rest_go (λ c. c.lane) lane c (last_cells s end (k - 1)) e) ∙ ap (cell_rest lane) (sym cells-first)
-
-    pub cells_stop : (c.lane ≡ lane → ⊥) → last_cells s end k ≡ cell_rest lane (last_cells s end k)
-    cells_stop d = cells-first ∙ sym (rest_stop (λ c. c.lane) lane c (last_cells s end (k - 1)) d) ∙ ap (cell_rest lane) (sym cells-first)
-
-  pub cells_end : (k : ℕ) {r : ℕ} → r ≡ 0 → k ≤ 0 → last_cells s end r ≡ cell_rest lane (last_cells s end k)
-  cells_end k {r} none_left over =
-      let z : k ≡ 0 = omega arith in
-      let no : last_cells s end k ≡ [] = ap (last_cells s end) z ∙ no_cells s end in
-      ap (last_cells s end) none_left ∙ no_cells s end ∙ sym (rest-none (λ c. c.lane) lane) ∙ ap (cell_rest lane) (sym no)
 
 -- ---- the note that goes over the line
 

@@ -1,5 +1,5 @@
 // Question 8 of a join: does its result fit a shelf? Its notes are counted from those of both takes and from the cells at the seam.
-ghost use Rattle.std.specs.Prelude.{◌≡◌, ◌+◌, ◌*◌, ◌≤◌, min, leb, length};
+ghost use Rattle.std.specs.Prelude.{◌≡◌, ◌+◌, ◌*◌, ◌≤◌, min, leb};
 ghost use Rattle.model.specs.Limits.{lane_count};
 ghost use Rattle.model.specs.Questions.{fits, take_at};
 ghost use Rattle.model.specs.Takes.{join_takes};
@@ -40,20 +40,12 @@ fn pair_count(h: Header, beats: u32, c: Cell, d: Cell) -> SeamCount
     }
 }
 
-// So many cells of a lane are in front.
-fn count_run(cells: &[CellWords], lane: u32) -> usize
-    ensures { result ≡ length (cell_run lane (cells_of cells.now)) }
-{
-    let other = cells.iter().position(|words| words[0] != lane);
-    other.unwrap_or(cells.len())
-}
-
 // The cells of a lane in front, and those behind them.
 fn lane_run(cells: &[CellWords], lane: u32) -> (&[CellWords], &[CellWords])
     ensures run { cells_of result.0.now ≡ cell_run lane (cells_of cells.now) }
     ensures rest { cells_of result.1.now ≡ cell_rest lane (cells_of cells.now) }
 {
-    cells.split_at(count_run(cells, lane))
+    cells.split_at(seam::count_run(cells, lane))
 }
 
 // The pair of a lane's cells: the last of the first take's and the first of the second's, if they are bound over the line.
