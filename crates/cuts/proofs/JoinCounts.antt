@@ -11,13 +11,14 @@ use Rattle.std.specs.Prelude.{Option, Some, None, MatchOption}
 use Rattle.std.specs.List.{slice_get, AllWithin, HoldsAt, take-map, drop-map}
 use Rattle.std.specs.Option.{unwrap_or}
 use Rattle.std.specs.Simd.{first_chunks}
+use Rattle.std.proofs.Common.{add-zero, get_or-drop, get_or-take, ne_eqb}
 use Rattle.std.proofs.lemmas.Iterator.{index_from_first}
 use Rattle.std.proofs.lemmas.List.{length-map}
 use Rattle.std.proofs.lemmas.Option.{none-some, slice_get-get_or}
 use Rattle.std.proofs.Math.Seq.{take-append_seam, drop-append_seam}
 use Rattle.model.specs.Binding.{stands_alone}
 use Rattle.model.specs.Limits.{max_words}
-use Rattle.model.specs.Takes.{cell_of}
+use Rattle.model.specs.Takes.{word, cell_of}
 use Rattle.model.specs.declared.Cell.{Cell}
 use Rattle.model.specs.declared.Header.{Header}
 use Rattle.laws.specs.JoinCount.{seams, seams_over, seams_step, lone-append, lone_few}
@@ -30,6 +31,7 @@ use Rattle.session.proofs.Lasts.{last_cells_lem, length_last}
 use Rattle.session.proofs.Wholes.{whole_cells}
 use Rattle.cuts.specs.declared.counting.SeamCount.{SeamCount}
 use Rattle.cuts.specs.Counting.{count_of, pair_at}
+use Rattle.cuts.specs.Lasts.{lane_of_last}
 use Rattle.cuts.proofs.JoinSeam.{nothing, run_go, run_none, run_stop}
 
 abbrev none : SeamCount
@@ -163,15 +165,32 @@ module _ (h : Header) (k : ℕ) where
 
 -- ---- the lane in front
 
-pub ahead-none : (ws : List (List ℕ)) → None ≡ slice_get ws 0 → 2048 ≡ lane_ahead (λ c. c.lane) (cells_of ws)
+-- the first word of the first
+abbrev ahead : List (List ℕ) → ℕ
+ahead = lane_ahead (λ w. word w 0)
+
+pub ahead-none : (ws : List (List ℕ)) → None ≡ slice_get ws 0 → 2048 ≡ ahead ws
 unfolding lane_ahead
 ahead-none [] e = refl
 ahead-none (w ∷ ws) e = absurd (none-some _ e)
 
-pub ahead-is : (ws : List (List ℕ)) {w : List ℕ} → Some w ≡ slice_get ws 0 → (cell_at w 0).lane ≡ lane_ahead (λ c. c.lane) (cells_of ws)
+pub ahead-is : (ws : List (List ℕ)) {w : List ℕ} → Some w ≡ slice_get ws 0 → word w 0 ≡ ahead ws
 unfolding lane_ahead
 ahead-is [] e = absurd (none-some _ (sym e))
-ahead-is (v ∷ ws) e = ap (λ x. (cell_at x 0).lane) (some_same e)
+ahead-is (v ∷ ws) e = ap (λ x. word x 0) (some_same e)
+
+-- the first word of a cell is its lane
+pub ahead_of_cells : (ws : List (List ℕ)) → ahead ws ≡ lane_ahead (λ c. c.lane) (cells_of ws)
+unfolding lane_ahead cell_at
+ahead_of_cells [] = refl
+ahead_of_cells (w ∷ ws) = refl
+
+-- of so many words each, cut from those up to a place
+pub ahead_of_last : (n : ℕ) → 0 < n → (s : List ℕ) (end k : ℕ) {ws : List (List ℕ)} → ws ≡ first_chunks n k (drop (end - n * k) s) → ahead ws ≡ lane_of_last n s end k
+unfolding lane_ahead lane_of_last
+ahead_of_last n some s end zero cut = ap ahead cut
+ahead_of_last n some s end (suc k) cut =
+    ap ahead cut ∙ rw (ne_eqb (suc k) 0 (omega arith), get_or-take n (drop (end - n * suc k) s) 0 0 some, get_or-drop (end - n * suc k) s 0 0, add-zero (end - n * suc k))
 
 -- the lane in front has cells
 ahead-some : (l : ℕ) (cs : List Cell) → lane_ahead (λ c. c.lane) cs ≡ l → l < 2048 → 0 < length (cell_run l cs)

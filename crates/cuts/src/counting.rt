@@ -4,13 +4,13 @@ ghost use Rattle.model.specs.Limits.{lane_count};
 ghost use Rattle.model.specs.Questions.{fits, take_at};
 ghost use Rattle.model.specs.Takes.{join_takes};
 ghost use Rattle.laws.specs.JoinCount.{seams};
-ghost use Rattle.laws.specs.JoinWalk.{cell_rest, cell_run, lane_ahead};
+ghost use Rattle.laws.specs.JoinWalk.{cell_rest, cell_run};
 ghost use Rattle.laws.specs.Seam.{seam_of};
 ghost use Rattle.session.specs.Sliced.{cells_of};
 ghost use Rattle.cuts.specs.Counting.{count_of, pair_at, SeamsAsks, CountsAsks, counted_words, FitAsks};
 
 use crate::halves::Contents;
-use crate::{halves, joined, seam};
+use crate::{halves, joined, lasts, seam};
 use model::{Cell, Header};
 use session::rules;
 use session::slices::CellWords;
@@ -60,17 +60,6 @@ fn run_count(h: Header, beats: u32, first: &[CellWords], second: &[CellWords]) -
 
 // ---- all lanes
 
-// The lane of the first cell, as `Last::lane` of places: 2,048 if there is none, a number above all lanes, so that the least lane of two takes is a
-// minimum.
-fn lane_ahead(cells: &[CellWords]) -> u32
-    ensures { result ≡ lane_ahead (λ c. c.lane) (cells_of cells.now) }
-{
-    let Some(words) = cells.first() else {
-        return Header::LANES;
-    };
-    words[0]
-}
-
 // The pairs of two takes' cells, the first of so many beats: one walk over both, the least lane in front next.
 fn count_seams(h: Header, beats: u32, first: &[CellWords], second: &[CellWords]) -> SeamCount
     requires { SeamsAsks h beats (cells_of first.now) (cells_of second.now) }
@@ -82,7 +71,7 @@ fn count_seams(h: Header, beats: u32, first: &[CellWords], second: &[CellWords])
     let mut alone = 0;
     // No `for`: each turn goes behind all cells of a lane, and both takes go on together, so that an iterator would have to hold both.
     while !left.is_empty() {
-        let lane = lane_ahead(left).min(lane_ahead(over));
+        let lane = lasts::lane_ahead(left).min(lasts::lane_ahead(over));
         let (a, behind) = lane_run(left, lane);
         let (b, rest) = lane_run(over, lane);
         let next = run_count(h, beats, a, b);
