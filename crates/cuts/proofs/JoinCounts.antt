@@ -2,7 +2,7 @@
 use mathlib.Core.Path.{◌≡◌, refl, sym, ap, ◌∙◌}
 use mathlib.Core.Bool.{Bool, true, false, not}
 use mathlib.Core.List.{List, [], ◌∷◌, ◌++◌}
-use Prim.Native.Nat.{ℕ, suc, ◌+◌, ◌-◌, ◌*◌, ◌≤◌, ◌<◌, min}
+use Prim.Native.Nat.{ℕ, zero, suc, ◌+◌, ◌-◌, ◌*◌, ◌≤◌, ◌<◌, min}
 use native.Mathlib.Omega.{arith}
 use borrow.Author.Tests.{eqb-true, eqb-false, leb-true, leb-false, not-true, not-false}
 use lib.Dec.{eqb, leb}
@@ -10,23 +10,28 @@ use lib.ListN.{length, length-append, take, drop}
 use Rattle.std.specs.Prelude.{Option, Some, None, MatchOption}
 use Rattle.std.specs.List.{slice_get, AllWithin, HoldsAt, take-map, drop-map}
 use Rattle.std.specs.Option.{unwrap_or}
+use Rattle.std.specs.Simd.{first_chunks}
+use Rattle.std.proofs.Common.{add-zero, get_or-drop, get_or-take, ne_eqb}
 use Rattle.std.proofs.lemmas.Iterator.{index_from_first}
 use Rattle.std.proofs.lemmas.List.{length-map}
 use Rattle.std.proofs.lemmas.Option.{none-some, slice_get-get_or}
 use Rattle.std.proofs.Math.Seq.{take-append_seam, drop-append_seam}
 use Rattle.model.specs.Binding.{stands_alone}
 use Rattle.model.specs.Limits.{max_words}
-use Rattle.model.specs.Takes.{cell_of}
+use Rattle.model.specs.Takes.{word, cell_of}
 use Rattle.model.specs.declared.Cell.{Cell}
 use Rattle.model.specs.declared.Header.{Header}
 use Rattle.laws.specs.JoinCount.{seams, seams_over, seams_step, lone-append, lone_few}
 use Rattle.laws.specs.JoinWalk.{From, cell_rest, cell_run, from-ahead, lane_ahead, rest_from, run-rest}
 use Rattle.laws.specs.Seam.{bound_at, lone, one, seam_of}
 use Rattle.laws.specs.SeamWalk.{last_or}
-use Rattle.session.specs.Reading.{cell_at}
+use Rattle.session.specs.Reading.{cell_at, last_cells}
 use Rattle.session.specs.Sliced.{cells_of}
+use Rattle.session.proofs.Lasts.{last_cells_lem, length_last}
+use Rattle.session.proofs.Wholes.{whole_cells}
 use Rattle.cuts.specs.declared.counting.SeamCount.{SeamCount}
 use Rattle.cuts.specs.Counting.{count_of, pair_at}
+use Rattle.cuts.specs.Lasts.{lane_of_last}
 use Rattle.cuts.proofs.JoinSeam.{nothing, run_go, run_none, run_stop}
 
 abbrev none : SeamCount
@@ -55,6 +60,16 @@ module _ (h : Header) (k : ℕ) (c d : Cell) {b : Bool} (is : b ≡ bound_at h k
       rw (sym is ∙ not-false b t, all)
 
 -- ---- the cells of a lane
+
+-- the last cells behind so many of them
+cells_dropped : (s : List ℕ) (end k n : ℕ) → 6 * k ≤ end → n ≤ k → drop n (last_cells s end k) ≡ last_cells s end (k - n)
+cells_dropped s end k zero fits few = ap (last_cells s end) (omega arith)
+cells_dropped s end zero (suc n) fits few = absurd (omega arith)
+cells_dropped s end (suc k) (suc n) fits few =
+    let one : suc k - 1 ≡ k = omega arith in
+    let left : k - n ≡ suc k - suc n = omega arith in
+    ap (drop (suc n)) (last_cells_lem s end (suc k) (omega arith) fits) ∙ ap (λ (i : ℕ). drop n (last_cells s end i)) one ∙ cells_dropped s end k n (omega arith) (omega arith)
+    ∙ ap (last_cells s end) left
 
 -- the words of a cell of another lane, and of one of the lane
 abbrev pub Other : ℕ → List ℕ → Type 0
@@ -92,8 +107,23 @@ module _ (lane : ℕ) where
     pub run_taken : cells_of (take n ws) ≡ run
     run_taken = sym (take-map (λ w. cell_at w 0) n ws) ∙ ap (take n) (sym both) ∙ ap (λ (i : ℕ). take i (run ++ rest)) is ∙ take-append_seam run rest
 
+    behind : drop n (cells_of ws) ≡ rest
+    behind = ap (drop n) (sym both) ∙ ap (λ (i : ℕ). drop i (run ++ rest)) is ∙ drop-append_seam run rest
+
     pub run_dropped : cells_of (drop n ws) ≡ rest
-    run_dropped = sym (drop-map (λ w. cell_at w 0) n ws) ∙ ap (drop n) (sym both) ∙ ap (λ (i : ℕ). drop i (run ++ rest)) is ∙ drop-append_seam run rest
+    run_dropped = sym (drop-map (λ w. cell_at w 0) n ws) ∙ behind
+
+    -- they are cut from the last cells up to a place
+    module _ (s : List ℕ) (end left : ℕ) (fits : 6 * left ≤ end) (cut : ws ≡ first_chunks 6 left (drop (end - 6 * left) s)) where
+      last : cells_of ws ≡ last_cells s end left
+      unfolding last_cells
+      last = ap cells_of cut ∙ whole_cells left (drop (end - 6 * left) s)
+
+      pub run_few : n ≤ left
+      run_few = omega (arith, run_inside, length-map ws (λ w. cell_at w 0), ap length last, length_last s end left)
+
+      pub run_behind : last_cells s end (left - n) ≡ cell_rest lane (last_cells s end left)
+      run_behind = sym (cells_dropped s end left n fits run_few) ∙ ap (drop n) (sym last) ∙ behind ∙ ap (cell_rest lane) last
 
 -- ---- the pair of a lane
 
@@ -135,15 +165,32 @@ module _ (h : Header) (k : ℕ) where
 
 -- ---- the lane in front
 
-pub ahead-none : (ws : List (List ℕ)) → None ≡ slice_get ws 0 → 2048 ≡ lane_ahead (λ c. c.lane) (cells_of ws)
+-- the first word of the first
+abbrev ahead : List (List ℕ) → ℕ
+ahead = lane_ahead (λ w. word w 0)
+
+pub ahead-none : (ws : List (List ℕ)) → None ≡ slice_get ws 0 → 2048 ≡ ahead ws
 unfolding lane_ahead
 ahead-none [] e = refl
 ahead-none (w ∷ ws) e = absurd (none-some _ e)
 
-pub ahead-is : (ws : List (List ℕ)) {w : List ℕ} → Some w ≡ slice_get ws 0 → (cell_at w 0).lane ≡ lane_ahead (λ c. c.lane) (cells_of ws)
+pub ahead-is : (ws : List (List ℕ)) {w : List ℕ} → Some w ≡ slice_get ws 0 → word w 0 ≡ ahead ws
 unfolding lane_ahead
 ahead-is [] e = absurd (none-some _ (sym e))
-ahead-is (v ∷ ws) e = ap (λ x. (cell_at x 0).lane) (some_same e)
+ahead-is (v ∷ ws) e = ap (λ x. word x 0) (some_same e)
+
+-- the first word of a cell is its lane
+pub ahead_of_cells : (ws : List (List ℕ)) → ahead ws ≡ lane_ahead (λ c. c.lane) (cells_of ws)
+unfolding lane_ahead cell_at
+ahead_of_cells [] = refl
+ahead_of_cells (w ∷ ws) = refl
+
+-- of so many words each, cut from those up to a place
+pub ahead_of_last : (n : ℕ) → 0 < n → (s : List ℕ) (end k : ℕ) {ws : List (List ℕ)} → ws ≡ first_chunks n k (drop (end - n * k) s) → ahead ws ≡ lane_of_last n s end k
+unfolding lane_ahead lane_of_last
+ahead_of_last n some s end zero cut = ap ahead cut
+ahead_of_last n some s end (suc k) cut =
+    ap ahead cut ∙ rw (ne_eqb (suc k) 0 (omega arith), get_or-take n (drop (end - n * suc k) s) 0 0 some, get_or-drop (end - n * suc k) s 0 0, add-zero (end - n * suc k))
 
 -- the lane in front has cells
 ahead-some : (l : ℕ) (cs : List Cell) → lane_ahead (λ c. c.lane) cs ≡ l → l < 2048 → 0 < length (cell_run l cs)

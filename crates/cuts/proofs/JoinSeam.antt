@@ -4,29 +4,29 @@ use mathlib.Core.Bool.{Bool, true, false, cond, true≢false}
 use mathlib.Core.List.{List, [], ◌∷◌, ◌++◌, map}
 use Prim.Native.Nat.{ℕ, zero, suc, ◌+◌, ◌-◌, ◌*◌, ◌≤◌, ◌<◌, min}
 use native.Mathlib.Omega.{arith}
-use borrow.Author.Tests.{eq-eqb, eqb-true, eqb-false, ne_eqb, leb-true, leb-false}
+use borrow.Author.Tests.{eq-eqb, eqb-true, ne_eqb, leb-true, leb-false}
 use lib.Dec.{leb, eqb}
 use lib.ListN.{length, length-append}
 use Rattle.words.specs.Splice.{splice}
 use Rattle.words.specs.Writes.{Writes, writes-run, writes-done, writes_same}
 use Rattle.words.specs.Parts.{Same}
-use Rattle.model.specs.Binding.{bound, stands_alone}
+use Rattle.model.specs.Binding.{stands_alone}
 use Rattle.model.specs.Lists.{gather}
 use Rattle.model.specs.Takes.{note_words}
 use Rattle.model.specs.declared.Header.{Header}
 use Rattle.model.specs.declared.Note.{Note}
 use Rattle.model.specs.declared.Cell.{Cell}
-use Rattle.laws.specs.JoinWalk.{run_of, rest_of, lane_ahead, least_lane, note_run, note_rest, cell_run, cell_rest}
+use Rattle.laws.specs.JoinWalk.{run_of, rest_of, least_lane, note_run, note_rest, cell_run}
 use Rattle.laws.specs.Relations.{All}
-use Rattle.laws.specs.Seam.{bound_at, ending_at, starting_at0, up_to, from_on, join_over}
+use Rattle.laws.specs.Seam.{ending_at, starting_at0, up_to, from_on, join_over}
 use Rattle.laws.specs.SeamWalk.{last_or, note_later}
 use Rattle.laws.specs.Sessions.{length-note_words}
 use Rattle.session.specs.Reading.{note_at, cell_at, last_notes, last_cells}
-use Rattle.session.proofs.Lasts.{no_notes, no_cells, last_notes_lem, last_cells_lem}
+use Rattle.session.proofs.Lasts.{no_notes, last_notes_lem, last_cells_lem}
 use Rattle.std.specs.Prelude.{Some}
 use Rattle.cuts.specs.declared.halves.Contents.{Contents}
 use Rattle.cuts.specs.declared.seam.Seam.{Seam}
-use Rattle.cuts.specs.Lasts.{lane_of_last}
+use Rattle.cuts.specs.Lasts.{lane_of_last, note_lane, cell_lane}
 use Rattle.cuts.specs.Seams.{Shiftable, later_run, NoteRunAsks, NoteRunPut, RunRead, OverAsks, lane_by, over_seam, lane_of}
 use Rattle.cuts.proofs.Passes.{notes_agree}
 
@@ -41,15 +41,7 @@ module _ {A : Type 0} (lane : A → ℕ) (l : ℕ) where
   unfolding rest_of
   rest-none = refl
 
-  pub ahead_none : lane_ahead lane [] ≡ 2048
-  unfolding lane_ahead
-  ahead_none = refl
-
   module _ (x : A) (xs : List A) where
-    ahead-first : lane_ahead lane (x ∷ xs) ≡ lane x
-    unfolding lane_ahead
-    ahead-first = refl
-
     module _ (e : lane x ≡ l) where
       pub run_go : run_of lane l (x ∷ xs) ≡ x ∷ run_of lane l xs
       unfolding run_of
@@ -161,69 +153,6 @@ module _ {s₀ : List ℕ} {to lane ticks end left₀ : ℕ} (fits : 4 * left₀
         let w = rw none at l.writes in
         rw is (record { words = writes-done w; rest = no ∙ sym (rest-none (λ n. n.lane) lane) ∙ ap (note_rest lane) (sym no) ∙ l.rest; count = omega (arith, w.place, sized, l.place) })
 
--- ---- the cells of a lane
-
-module _ (s : List ℕ) (end lane : ℕ) where
-  module _ (k : ℕ) (more : 0 < k) (fits : 6 * k ≤ end) {c : Cell} (is : c ≡ cell_at s (end - 6 * k)) where
-    cells-first : last_cells s end k ≡ c ∷ last_cells s end (k - 1)
-    cells-first = last_cells_lem s end k more fits ∙ rw (← is)
-
-    pub cells_go : c.lane ≡ lane → cell_rest lane (last_cells s end (k - 1)) ≡ cell_rest lane (last_cells s end k)
-    cells_go e = sym (rest_go (λ c. c.lane) lane c (last_cells s end (k - 1)) e) ∙ ap (cell_rest lane) (sym cells-first)
-
-    pub cells_stop : (c.lane ≡ lane → ⊥) → last_cells s end k ≡ cell_rest lane (last_cells s end k)
-    cells_stop d = cells-first ∙ sym (rest_stop (λ c. c.lane) lane c (last_cells s end (k - 1)) d) ∙ ap (cell_rest lane) (sym cells-first)
-
-    cell-ahead : c.lane ≡ lane_ahead (λ c. c.lane) (last_cells s end k)
-    cell-ahead = sym (ahead-first (λ c. c.lane) lane c (last_cells s end (k - 1))) ∙ ap (lane_ahead (λ c. c.lane)) (sym cells-first)
-
-  pub cells_end : (k : ℕ) {r : ℕ} → r ≡ 0 → k ≤ 0 → last_cells s end r ≡ cell_rest lane (last_cells s end k)
-  cells_end k {r} none_left over =
-      let z : k ≡ 0 = omega arith in
-      let no : last_cells s end k ≡ [] = ap (last_cells s end) z ∙ no_cells s end in
-      ap (last_cells s end) none_left ∙ no_cells s end ∙ sym (rest-none (λ c. c.lane) lane) ∙ ap (cell_rest lane) (sym no)
-
-module _ (s : List ℕ) (end k : ℕ) where
-  no_cell-ahead : k ≡ 0 → 2048 ≡ lane_ahead (λ c. c.lane) (last_cells s end k)
-  no_cell-ahead z = sym (ahead_none (λ c. c.lane) 0) ∙ ap (lane_ahead (λ c. c.lane)) (sym (ap (last_cells s end) z ∙ no_cells s end))
-
-  no_note-ahead : k ≡ 0 → 2048 ≡ lane_ahead (λ n. n.lane) (last_notes s end k)
-  no_note-ahead z = sym (ahead_none (λ n. n.lane) 0) ∙ ap (lane_ahead (λ n. n.lane)) (sym (ap (last_notes s end) z ∙ no_notes s end))
-
-  note-ahead : 0 < k → 4 * k ≤ end → {n : Note} → n ≡ note_at s (end - 4 * k) → n.lane ≡ lane_ahead (λ n. n.lane) (last_notes s end k)
-  note-ahead more fits {n} is =
-      let first : last_notes s end k ≡ n ∷ last_notes s end (k - 1) = last_notes_lem s end k more fits ∙ rw (← is) in
-      sym (ahead-first (λ n. n.lane) 0 n (last_notes s end (k - 1))) ∙ ap (lane_ahead (λ n. n.lane)) (sym first)
-
--- ---- two cells on the line
-
-module _ (h : Header) (k : ℕ) (c d : Cell) where
-  pub over_not_closing : (c.side ≡ 1 → ⊥) → false ≡ bound_at h k c d
-  unfolding bound_at
-  over_not_closing n = rw (ne_eqb c.side 1 n)
-
-  module _ (e : c.side ≡ 1) where
-    pub over_not_last : (c.beat + 1 ≡ k → ⊥) → false ≡ bound_at h k c d
-    unfolding bound_at
-    over_not_last n = rw (eq-eqb c.side 1 e, ne_eqb (suc c.beat) k (omega arith))
-
-    module _ (f : c.beat + 1 ≡ k) where
-      last_beat : eqb (suc c.beat) k ≡ true
-      last_beat = eq-eqb (suc c.beat) k (omega arith)
-
-      pub over_not_opening : (d.side ≡ 0 → ⊥) → false ≡ bound_at h k c d
-      unfolding bound_at
-      over_not_opening n = rw (eq-eqb c.side 1 e, last_beat, ne_eqb d.side 0 n)
-
-      module _ (g : d.side ≡ 0) where
-        pub over_not_first : (d.beat ≡ 0 → ⊥) → false ≡ bound_at h k c d
-        unfolding bound_at
-        over_not_first n = rw (eq-eqb c.side 1 e, last_beat, eq-eqb d.side 0 g, ne_eqb d.beat 0 n)
-
-        pub over_bound : d.beat ≡ 0 → bound h c d ≡ bound_at h k c d
-        unfolding bound_at
-        over_bound z = rw (eq-eqb c.side 1 e, last_beat, eq-eqb d.side 0 g, eq-eqb d.beat 0 z)
-
 -- ---- the note that goes over the line
 
 pub nothing : {A : Type 0} (xs : List A) → length xs ≡ 0 → xs ≡ []
@@ -330,27 +259,10 @@ over_lane h line c d xs ys = refl
 
 -- ---- the lane that is next
 
-note_lane : (s : List ℕ) (end k : ℕ) → 4 * k ≤ end → lane_of_last 4 s end k ≡ lane_ahead (λ n. n.lane) (last_notes s end k)
-unfolding lane_of_last note_at
-note_lane s end k fits = go (eqb k 0) refl
-  where
-    go : (b : Bool) → eqb k 0 ≡ b → cond b 2048 (note_at s (end - 4 * k)).lane ≡ lane_ahead (λ n. n.lane) (last_notes s end k)
-    go true e = no_note-ahead s end k (eqb-true k 0 e)
-    go false e = note-ahead s end k (omega (arith, eqb-false k 0 e)) fits refl
-
-cell_lane : (s : List ℕ) (end k : ℕ) → 6 * k ≤ end → lane_of_last 6 s end k ≡ lane_ahead (λ c. c.lane) (last_cells s end k)
-unfolding lane_of_last cell_at
-cell_lane s end k fits = go (eqb k 0) refl
-  where
-    go : (b : Bool) → eqb k 0 ≡ b → cond b 2048 (cell_at s (end - 6 * k)).lane ≡ lane_ahead (λ c. c.lane) (last_cells s end k)
-    go true e = no_cell-ahead s end k (eqb-true k 0 e)
-    go false e = cell-ahead s end 0 k (omega (arith, eqb-false k 0 e)) fits refl
-
 pub lane_is : (s : List ℕ) (from : Contents) {a b r : ℕ} → a ≡ lane_of_last 4 s from.notes.end from.notes.left → b ≡ lane_of_last 6 s from.cells.end from.cells.left
     → r ≡ min a b → r ≡ lane_of s from
 unfolding lane_of
-lane_is s from e f g =
-    g ∙ rw (e ∙ note_lane s from.notes.end from.notes.left from.notes.fits, f ∙ cell_lane s from.cells.end from.cells.left from.cells.fits)
+lane_is s from e f g = g ∙ rw (e ∙ note_lane s from.notes.end from.notes.left, f ∙ cell_lane s from.cells.end from.cells.left)
 
 pub least_is : (s : List ℕ) (first second : Contents) {a b r : ℕ} → a ≡ lane_of s first → b ≡ lane_of s second → r ≡ min a b
     → r ≡ least_lane (last_notes s first.notes.end first.notes.left) (last_cells s first.cells.end first.cells.left) (last_notes s second.notes.end second.notes.left) (last_cells s second.cells.end second.cells.left)

@@ -1,16 +1,16 @@
 // Question 8 of a join: does its result fit a shelf? Its notes are counted from those of both takes and from the cells at the seam.
-ghost use Rattle.std.specs.Prelude.{◌≡◌, ◌+◌, ◌*◌, ◌≤◌, min, leb, length};
+ghost use Rattle.std.specs.Prelude.{◌≡◌, ◌+◌, ◌*◌, ◌≤◌, min, leb};
 ghost use Rattle.model.specs.Limits.{lane_count};
 ghost use Rattle.model.specs.Questions.{fits, take_at};
 ghost use Rattle.model.specs.Takes.{join_takes};
 ghost use Rattle.laws.specs.JoinCount.{seams};
-ghost use Rattle.laws.specs.JoinWalk.{cell_rest, cell_run, lane_ahead};
+ghost use Rattle.laws.specs.JoinWalk.{cell_rest, cell_run};
 ghost use Rattle.laws.specs.Seam.{seam_of};
 ghost use Rattle.session.specs.Sliced.{cells_of};
 ghost use Rattle.cuts.specs.Counting.{count_of, pair_at, SeamsAsks, CountsAsks, counted_words, FitAsks};
 
 use crate::halves::Contents;
-use crate::{halves, joined, seam};
+use crate::{halves, joined, lasts, seam};
 use model::{Cell, Header};
 use session::rules;
 use session::slices::CellWords;
@@ -40,20 +40,12 @@ fn pair_count(h: Header, beats: u32, c: Cell, d: Cell) -> SeamCount
     }
 }
 
-// So many cells of a lane are in front.
-fn count_run(cells: &[CellWords], lane: u32) -> usize
-    ensures { result ≡ length (cell_run lane (cells_of cells.now)) }
-{
-    let other = cells.iter().position(|words| words[0] != lane);
-    other.unwrap_or(cells.len())
-}
-
 // The cells of a lane in front, and those behind them.
 fn lane_run(cells: &[CellWords], lane: u32) -> (&[CellWords], &[CellWords])
     ensures run { cells_of result.0.now ≡ cell_run lane (cells_of cells.now) }
     ensures rest { cells_of result.1.now ≡ cell_rest lane (cells_of cells.now) }
 {
-    cells.split_at(count_run(cells, lane))
+    cells.split_at(seam::count_run(cells, lane))
 }
 
 // The pair of a lane's cells: the last of the first take's and the first of the second's, if they are bound over the line.
@@ -68,17 +60,6 @@ fn run_count(h: Header, beats: u32, first: &[CellWords], second: &[CellWords]) -
 
 // ---- all lanes
 
-// The lane of the first cell, as `Last::lane` of places: 2,048 if there is none, a number above all lanes, so that the least lane of two takes is a
-// minimum.
-fn lane_ahead(cells: &[CellWords]) -> u32
-    ensures { result ≡ lane_ahead (λ c. c.lane) (cells_of cells.now) }
-{
-    let Some(words) = cells.first() else {
-        return Header::LANES;
-    };
-    words[0]
-}
-
 // The pairs of two takes' cells, the first of so many beats: one walk over both, the least lane in front next.
 fn count_seams(h: Header, beats: u32, first: &[CellWords], second: &[CellWords]) -> SeamCount
     requires { SeamsAsks h beats (cells_of first.now) (cells_of second.now) }
@@ -90,7 +71,7 @@ fn count_seams(h: Header, beats: u32, first: &[CellWords], second: &[CellWords])
     let mut alone = 0;
     // No `for`: each turn goes behind all cells of a lane, and both takes go on together, so that an iterator would have to hold both.
     while !left.is_empty() {
-        let lane = lane_ahead(left).min(lane_ahead(over));
+        let lane = lasts::lane_ahead(left).min(lasts::lane_ahead(over));
         let (a, behind) = lane_run(left, lane);
         let (b, rest) = lane_run(over, lane);
         let next = run_count(h, beats, a, b);

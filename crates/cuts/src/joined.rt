@@ -69,7 +69,7 @@ pub fn put_joined_cells(
         at += 6 * (rest.left - next.left) + 6;
         rest = next;
     }
-    let over = put_lower(s, at, 2048, beats, rest);
+    let over = put_lower(s, at, Header::LANES, beats, rest);
     at + 6 * (rest.left - over.left)
 }
 

@@ -178,7 +178,7 @@ pub fn put_joined_notes(
     };
     let mut lane = seam::least_lane(s, first, second);
     // No `for`: each turn goes to the next lane that has a note or a cell, which shows only when the lane before it is written.
-    while lane < 2048 {
+    while lane < Header::LANES {
         rests = put_lane(s, line, lane, rests);
         lane = seam::least_lane(s, rests.first, rests.second);
     }

@@ -1,5 +1,9 @@
 // The last notes, or the last cells, of those that stand up to a place.
-ghost use Rattle.std.specs.Prelude.{◌≡◌, ◌-◌, ◌*◌, ◌≤◌};
+ghost use Rattle.std.specs.Prelude.{◌≡◌, ◌-◌, ◌*◌, ◌≤◌, ◌<◌};
+ghost use Rattle.model.specs.Takes.{word};
+ghost use Rattle.laws.specs.JoinWalk.{lane_ahead};
+
+use model::Header;
 
 // The last `left` of those that stand up to place `end`, of so many words each. Places and no slice: split and join write into the session
 // that they read from, which C passes as one list.
@@ -7,7 +11,7 @@ ghost use Rattle.std.specs.Prelude.{◌≡◌, ◌-◌, ◌*◌, ◌≤◌};
 pub struct Last<const WORDS: usize> {
     pub end: usize,
     pub left: usize,
-    ghost fits: { WORDS * left ≤ end },
+    pub ghost fits: { WORDS * left ≤ end },
 }
 
 // Notes have four words, and cells six.
@@ -16,7 +20,7 @@ pub type LastNotes = Last<4>;
 pub type LastCells = Last<6>;
 
 impl<const WORDS: usize> Last<WORDS> {
-    ghost use Rattle.std.specs.Prelude.{◌<◌, drop, length};
+    ghost use Rattle.std.specs.Prelude.{drop, length};
     ghost use Rattle.std.specs.Simd.{first_chunks};
     ghost use Rattle.cuts.specs.Lasts.{lane_of_last};
 
@@ -27,17 +31,13 @@ impl<const WORDS: usize> Last<WORDS> {
         self.end - WORDS * self.left
     }
 
-    // The lane of the first, which is its first word: 2,048 if there is none. A number above all lanes and no Option, so that the least lane
-    // of several is a minimum.
+    // The lane of the first: 2,048 if there is none. WORDS has a bound, so that an array of so many words is not too large.
     pub fn lane(self, s: &[u32]) -> u32
-        requires some { 0 < WORDS }
+        requires some { (0 < WORDS) × (WORDS ≤ 6) }
         requires inside { self.end ≤ length s.now }
         ensures { result ≡ lane_of_last WORDS s.now self.entry.end self.entry.left }
     {
-        if self.left == 0 {
-            return 2048;
-        }
-        s[self.place()]
+        lane_ahead(self.arrays(s))
     }
 
     // The words of each, as arrays.
@@ -61,4 +61,16 @@ impl<const WORDS: usize> Last<WORDS> {
             left,
         }
     }
+}
+
+// The lane of the first of some notes or cells, which is its first word: 2,048 if there is none. A number above all lanes and no Option, so that the
+// least lane of several is a minimum.
+pub(crate) fn lane_ahead<const WORDS: usize>(all: &[[u32; WORDS]]) -> u32
+    requires some { 0 < WORDS }
+    ensures { result ≡ lane_ahead (λ ws. word ws 0) all.now }
+{
+    let Some(words) = all.first() else {
+        return Header::LANES;
+    };
+    words[0]
 }

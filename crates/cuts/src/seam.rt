@@ -1,17 +1,19 @@
 // The notes of a join, lane by lane: copied from both takes, and at the seam decided by the rules.
 ghost use Rattle.std.specs.Prelude.{◌≡◌, ◌≤◌, length};
-ghost use Rattle.laws.specs.JoinWalk.{least_lane, note_run, cell_rest};
+ghost use Rattle.laws.specs.JoinWalk.{least_lane, note_run, cell_run, cell_rest};
 ghost use Rattle.laws.specs.Seam.{bound_at, ending_at, starting_at0, up_to, from_on};
 ghost use Rattle.session.specs.Reading.{last_notes, last_cells};
+ghost use Rattle.session.specs.Sliced.{cells_of};
 ghost use Rattle.cuts.specs.Seams.{NoteRunAsks, NoteRunPut, RunRead, OverAsks, over_seam, InPlace, lane_of};
 
 use crate::halves::Contents;
 use crate::lasts::{LastCells, LastNotes};
 use model::{Cell, Header, Note};
+use session::slices::CellWords;
 use session::{notes, rules};
 
 // The notes of a lane in front of the last notes, so many ticks later. Returns those that are left.
-// One generic function for this, behind_cell_run and joined::put_lower is no plainer: it would take closures for reading, the test and the words.
+// One generic function for this and joined::put_lower is no plainer: it would take closures for reading, the test and the words.
 pub fn put_note_run(s: &mut [u32], to: usize, lane: u32, ticks: u32, notes: LastNotes) -> LastNotes
     requires { NoteRunAsks s.old to lane ticks notes.end notes.left }
     ensures put { NoteRunPut s.old to lane ticks notes.end notes.left s.new result.left }
@@ -35,40 +37,34 @@ pub fn put_note_run(s: &mut [u32], to: usize, lane: u32, ticks: u32, notes: Last
     notes.keep(0)
 }
 
-// The cells that are left behind those of a lane in front: by places, as the session is written meanwhile; question 8 goes over slices.
+// So many cells of a lane are in front.
+pub(crate) fn count_run(cells: &[CellWords], lane: u32) -> usize
+    ensures { result ≡ length (cell_run lane (cells_of cells.now)) }
+{
+    let other = cells.iter().position(|words| words[0] != lane);
+    other.unwrap_or(cells.len())
+}
+
+// The cells that are left behind those of a lane in front.
 pub fn behind_cell_run(s: &[u32], cells: LastCells, lane: u32) -> LastCells
     requires { cells.end ≤ length s.now }
     ensures run { (last_cells s.now cells.end result.left ≡ cell_rest lane (last_cells s.now cells.end cells.left)) × (result.left ≤ cells.left) }
     ensures end_is { result.end ≡ cells.end }
 {
-    for rest in (1..=cells.left).rev() {
-        let c = notes::cell_at(s, cells.end - 6 * rest);
-        if c.lane != lane {
-            return cells.keep(rest);
-        }
-    }
-    cells.keep(0)
+    cells.keep(cells.left - count_run(cells.arrays(s), lane))
 }
 
 // Are two cells on the line between the takes, behind so many beats of the first, and bound? A cell's side stays a word, since a session from C
 // may hold any.
+#[tactic(auto, unfolding(laws::specs::Seam::bound_at))]
 pub fn bound_over(h: Header, beats: u32, c: Cell, d: Cell) -> bool
     ensures { result ≡ bound_at h beats c d }
 {
-    // Tried as one conjunction: its branches join before the last test, and the proof did not close.
-    if c.side != 1 {
-        return false;
-    }
-    if (c.beat as u64) + 1 != (beats as u64) {
-        return false;
-    }
-    if d.side != 0 {
-        return false;
-    }
-    if d.beat != 0 {
-        return false;
-    }
-    rules::is_bound(h, c, d)
+    c.side == 1
+        && (c.beat as u64) + 1 == (beats as u64)
+        && d.side == 0
+        && d.beat == 0
+        && rules::is_bound(h, c, d)
 }
 
 // ---- the note that goes over the line

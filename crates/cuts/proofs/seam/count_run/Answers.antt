@@ -1,10 +1,10 @@
--- `cuts::counting::count_run` meets its contract.
+-- `cuts::seam::count_run` meets its contract.
 use mathlib.Core.Path.{◌∙◌}
 use Rattle.std.proofs.Common.{rules, tests}
 use Rattle.std.proofs.lemmas.Iterator.{IsFirst-from_position, YieldsList-from_slice}
 use Rattle.session.specs.Reading.{cell_at}
 use Rattle.cuts.proofs.JoinCounts.{Other, Own, run_ends}
-use Rattle.cuts.proofs.counting.count_run.Goals as goal
+use Rattle.cuts.proofs.seam.count_run.Goals as goal
 
 pub returns : goal.returns
 unfolding cell_at
