@@ -15,7 +15,8 @@ loop-words-init c = checked-start _ _ _ (zeros_are c.default-last.result c.defau
 
 pub returns-then-not-in_order : goal.returns-then-not-in_order
 returns-then-not-in_order c =
-    not_ok _ _ _ _ c.as_chunks.ensures.front c.as_chunks.ensures.back_len (not_ordered _ _ _ c.loop-words.invariant c.loop-words-test.true _ c.from-note.ensures c.in_order.ensures c.if-not-in_order.true)
+    let wrong = not_ordered _ _ _ c.loop-words.invariant c.loop-words-test.true _ c.from-note.ensures c.in_order.ensures c.if-not-in_order.true in
+    not_ok _ _ _ _ c.as_chunks.ensures.front c.as_chunks.ensures.back_len wrong
 
 pub cell_count-requires : goal.cell_count-requires
 cell_count-requires c =
