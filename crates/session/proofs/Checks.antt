@@ -20,6 +20,7 @@ use Rattle.model.specs.Machine.{listed}
 use Rattle.model.specs.Questions.{list_ok}
 use Rattle.model.specs.declared.Header.{Header}
 use Rattle.model.specs.declared.Note.{Note}
+use Rattle.laws.specs.Booleans.{and_left, and_right}
 use Rattle.laws.specs.Notes.{note_same, Fair, fair, Follow, Follow.above, Follow.later, follow}
 use Rattle.session.specs.Checking.{before_all}
 use Rattle.session.specs.Sliced.{notes_of}
@@ -71,6 +72,11 @@ first_follows_lem (n ∷ ns) = go n.lane
     go zero = le-leb 0 n.start (omega arith)
     go (suc l) = rw (lt-ltb 0 (suc l) (omega arith))
 
+-- where one of two tests fails
+one_no : (t u v w : Bool) → t && u ≡ false → u && (t && v && w) ≡ false
+one_no true u v w e = rw e refl
+one_no false u v w e = and-false u
+
 module _ (δ beats : ℕ) (ws : List (List ℕ)) where
   -- the notes from array i on, all of them, and how many cells some notes have
   abbrev rest : ℕ → List Note
@@ -108,33 +114,31 @@ module _ (δ beats : ℕ) (ws : List (List ℕ)) where
       cons : rest i ≡ n ∷ rest (i + 1)
       cons = note_behind ws i more d is
 
-      pub not_ranged : note_ok δ beats n ≡ false → notes_ok δ beats all ≡ false
-      unfolding notes_ok
-      not_ranged wrong = c.ok ∙ rw (cons, wrong) (and-false (first_follows m (n ∷ rest (i + 1))))
+      module _ {p : Bool} (o : p ≡ note_ok δ beats n && follows m n) where
+        pub not_ordered : p ≡ false → notes_ok δ beats all ≡ false
+        unfolding notes_ok first_follows
+        not_ordered wrong = c.ok ∙ rw cons (one_no (note_ok δ beats n) (follows m n) (first_follows n (rest (i + 1))) (notes_ok δ beats (rest (i + 1))) (sym o ∙ wrong))
 
-      pub not_follows : follows m n ≡ false → notes_ok δ beats all ≡ false
-      unfolding first_follows
-      not_follows wrong = c.ok ∙ rw (cons, wrong)
-
-      pub checked-note : (0 < δ) × (δ ≤ max_delta) × (beats ≤ max_beats) → note_ok δ beats n ≡ true → follows m n ≡ true
-          → {k : ℕ} → k ≡ length (cells_of_note δ n) → Checked n (cells + k) (i + 1)
-      unfolding notes_ok first_follows
-      checked-note h right next {k} e =
-          let r = fair δ beats n right in
-          record {
-            ok = c.ok ∙ rw (cons, right, next);
-            count = omega (arith, rw cons at c.count, length-append (cells_of_note δ n) (gather (cells_of_note δ) (rest (i + 1))));
-            lane = r.lane_below;
-            top = r.fits;
-            few = further h r (follow m n next) e;
-          }
-        where
-          further : (0 < δ) × (δ ≤ max_delta) × (beats ≤ max_beats) → Fair δ beats n → Follow m n → {k : ℕ} → k ≡ length (cells_of_note δ n)
-              → cells + k ≤ 2 * (n.lane * (beats * δ) + n.end)
-          further h r (above up) e =
-              omega (arith, few_cells δ n (count_asks δ beats n h r), c.few, c.top, suc-mul m.lane (beats * δ), mul-le-mul_right (beats * δ) up)
-          further h r (later same behind) e =
-              omega (arith, few_cells δ n (count_asks δ beats n h r), c.few, ap (λ (l : ℕ). l * (beats * δ)) same)
+        pub checked-note : (0 < δ) × (δ ≤ max_delta) × (beats ≤ max_beats) → p ≡ true → {k : ℕ} → k ≡ length (cells_of_note δ n) → Checked n (cells + k) (i + 1)
+        unfolding notes_ok first_follows
+        checked-note h t {k} e =
+            let right = and_left (note_ok δ beats n) (follows m n) (sym o ∙ t) in
+            let next = and_right (note_ok δ beats n) (follows m n) (sym o ∙ t) in
+            let r = fair δ beats n right in
+            record {
+              ok = c.ok ∙ rw (cons, right, next);
+              count = omega (arith, rw cons at c.count, length-append (cells_of_note δ n) (gather (cells_of_note δ) (rest (i + 1))));
+              lane = r.lane_below;
+              top = r.fits;
+              few = further h r (follow m n next) e;
+            }
+          where
+            further : (0 < δ) × (δ ≤ max_delta) × (beats ≤ max_beats) → Fair δ beats n → Follow m n → {k : ℕ} → k ≡ length (cells_of_note δ n)
+                → cells + k ≤ 2 * (n.lane * (beats * δ) + n.end)
+            further h r (above up) e =
+                omega (arith, few_cells δ n (count_asks δ beats n h r), c.few, c.top, suc-mul m.lane (beats * δ), mul-le-mul_right (beats * δ) up)
+            further h r (later same behind) e =
+                omega (arith, few_cells δ n (count_asks δ beats n h r), c.few, ap (λ (l : ℕ). l * (beats * δ)) same)
 
 -- ---- the answer
 

@@ -1,4 +1,5 @@
 pub mod Entries
+pub mod Fewer
 pub mod Frames
 pub mod Counts
 pub mod Quotients

@@ -50,8 +50,8 @@ fn is_clear(delta: u32, beat: u32, n: Note, c: Cell) -> bool
     }
 }
 
-// A note with its beat, as one value, would need δ too, and that it is the header's. Is the note clear of the first two cells? A beat of a lane has
-// no more than two.
+// Is the note clear of the first two cells? A beat of a lane has no more than two. A note with its beat, as one value, would need δ too, and that it
+// is the header's.
 pub fn is_clear_of_two(delta: u32, beat: u32, n: Note, cells: &[CellWords]) -> bool
     requires { (0 < delta) × (beat ≡ first_beat delta n) }
     ensures { result ≡ clear_two delta n (cells_of cells.now) }

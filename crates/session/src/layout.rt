@@ -25,12 +25,11 @@ fn joined(words: &[u32]) -> u32
 fn are_zeros(words: &[u32]) -> bool
     ensures { result ≡ every (eqb 0) words.now }
 {
-    let mut rest = words;
-    while let Some((block, behind)) = rest.split_first_chunk::<64>() {
+    let (blocks, rest) = words.as_chunks::<64>();
+    for block in blocks {
         if joined(block) != 0 {
             return false;
         }
-        rest = behind;
     }
     joined(rest) == 0
 }

@@ -24,10 +24,7 @@ pub fn check_list(h: Header, beats: u32, list: &[u32]) -> Result<u64, Question>
     let mut cells: u64 = 0;
     for words in notes {
         let note = Note::from(*words);
-        if !notes::note_ok(h.delta, beats, note) {
-            return Err(Question::ListInOrder);
-        }
-        if !notes::note_follows(last, note) {
+        if !notes::in_order(h.delta, beats, last, note) {
             return Err(Question::ListInOrder);
         }
         cells += by.cell_count(note) as u64;

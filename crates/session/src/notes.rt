@@ -1,7 +1,7 @@
 // Reading a note and a cell, and the rules for one note of a list. δ and the beats are asked in range where products must fit, here and in the other
 // files: the definitions and other functions take any, and a type that says both would ask it of those too. Words are read one by one: an array of
 // them, for `From`, would be cut out first.
-ghost use Rattle.std.specs.Prelude.{◌≡◌, ◌+◌, ◌≤◌, length};
+ghost use Rattle.std.specs.Prelude.{◌≡◌, ◌&&◌, ◌+◌, ◌≤◌, length};
 ghost use Rattle.model.specs.Limits.{max_beats, max_delta, velocity_ok};
 ghost use Rattle.model.specs.Soundness.{note_ok, follows};
 ghost use Rattle.session.specs.Reading.{note_at, cell_at};
@@ -64,4 +64,12 @@ pub fn note_follows(m: Note, n: Note) -> bool
     ensures { result ≡ follows m n }
 {
     rules::lane_order(m.lane, m.end) <= rules::lane_order(n.lane, n.start)
+}
+
+// What is asked of a note by itself and behind the note before it.
+pub fn in_order(delta: u32, beats: u32, last: Note, n: Note) -> bool
+    requires { (delta ≤ max_delta) × (beats ≤ max_beats) }
+    ensures { result ≡ (note_ok delta beats n && follows last n) }
+{
+    note_ok(delta, beats, n) && note_follows(last, n)
 }

@@ -7,6 +7,7 @@ ghost use Rattle.session.specs.Running.{from_first};
 ghost use Rattle.session.specs.Sliced.{cells_of, first_cell};
 
 use model::Cell;
+use std::cmp;
 
 // The words of a note.
 pub type NoteWords = [u32; 4];
@@ -23,7 +24,8 @@ pub(crate) fn first_cell(cells: &[CellWords]) -> Option<(Cell, &[CellWords])>
     Some((Cell::from(*words), behind))
 }
 
-// The cells from the first one on at which the test holds, or none. The test is given a cell and those behind it.
+// The cells from the first one on at which the test holds, or none. The test is given the cells behind each cell too, which that of `position` is not:
+// so this is a loop over what is left.
 pub(crate) fn from_first<'a, F: Fn(Cell, &'a [CellWords]) -> bool>(
     cells: &'a [CellWords],
     test: F,
@@ -41,14 +43,9 @@ pub(crate) fn from_first<'a, F: Fn(Cell, &'a [CellWords]) -> bool>(
     left
 }
 
-// These cells, if they are fewer than the others; else the others.
-#[tactic(auto, unfolding(crate::specs::Passing::fewer))]
+// These cells, if they are fewer than the others; else the others, which stand first here, since the first of two that are as few is answered.
 pub(crate) fn fewer<'a>(cells: &'a [CellWords], others: &'a [CellWords]) -> &'a [CellWords]
     ensures { cells_of result.now ≡ fewer (cells_of cells.now) (cells_of others.now) }
 {
-    if cells.len() < others.len() {
-        cells
-    } else {
-        others
-    }
+    cmp::min_by_key(others, cells, |part| part.len())
 }

@@ -3,7 +3,7 @@ ghost use Rattle.std.specs.Prelude.{◌≡◌, true, false, ◌&&◌, ◌*◌, �
 ghost use Rattle.model.specs.Limits.{max_beats, max_delta, min_words};
 ghost use Rattle.model.specs.Lists.{every};
 ghost use Rattle.model.specs.Pieces.{first_beat};
-ghost use Rattle.model.specs.Soundness.{note_ok, follows, sound_shelf};
+ghost use Rattle.model.specs.Soundness.{sound_shelf};
 ghost use Rattle.laws.specs.Chain.{cell_ok, cells_sound};
 ghost use Rattle.session.specs.Checking.{notes_asked};
 ghost use Rattle.session.specs.Passing.{passed_inner, passed_line, passed};
@@ -63,14 +63,6 @@ fn pass(h: Header, by: Divisor, n: Note, left: Left) -> Option<Left>
     pass_line(h, n, left)
 }
 
-// What is asked of a note by itself and behind the note before it.
-fn in_order(delta: u32, beats: u32, last: Note, n: Note) -> bool
-    requires { (delta ≤ max_delta) × (beats ≤ max_beats) }
-    ensures { result ≡ (note_ok delta beats n && follows last n) }
-{
-    notes::note_ok(delta, beats, n) && notes::note_follows(last, n)
-}
-
 // What is asked of the notes beside cells that passed: ranges, order, and that they stand rightly beside them.
 pub fn notes_ok(h: Header, beats: u32, notes: &[NoteWords], cells: &[CellWords]) -> bool
     requires { (0 < h.delta) × (h.delta ≤ max_delta) × (beats ≤ max_beats) × (every (cell_ok h.delta beats) (cells_of cells.now) && cells_sound h.delta (cells_of cells.now) ≡ true) }
@@ -85,7 +77,7 @@ pub fn notes_ok(h: Header, beats: u32, notes: &[NoteWords], cells: &[CellWords])
     };
     for words in notes {
         let n = Note::from(*words);
-        if !in_order(h.delta, beats, last, n) {
+        if !notes::in_order(h.delta, beats, last, n) {
             return false;
         }
         let Some(passed) = pass(h, by, n, left) else {

@@ -1,9 +1,10 @@
 -- `session::list::check_list` meets its contract.
 use mathlib.Core.Path.{sym, ap, ◌∙◌}
 use lib.ListN.{length}
+use Rattle.laws.specs.Booleans.{and_left}
 use Rattle.laws.specs.Notes.{fair}
 use Rattle.model.specs.Pieces.{cells_of_note}
-use Rattle.session.proofs.Checks.{zeros_are, checked-start, checked-done, not_ranged, not_follows, checked-note, count_asks, not_whole, not_ok, counted}
+use Rattle.session.proofs.Checks.{zeros_are, checked-start, checked-done, not_ordered, checked-note, count_asks, not_whole, not_ok, counted}
 use Rattle.session.proofs.list.check_list.Goals as goal
 
 pub returns-then-not-is_empty : goal.returns-then-not-is_empty
@@ -12,22 +13,19 @@ returns-then-not-is_empty c = not_whole _ _ _ _ c.as_chunks.ensures.front c.as_c
 pub loop-words-init : goal.loop-words-init
 loop-words-init c = checked-start _ _ _ (zeros_are c.default-last.result c.default-last.ensures)
 
-pub returns-then-not-note_ok : goal.returns-then-not-note_ok
-returns-then-not-note_ok c =
-    not_ok _ _ _ _ c.as_chunks.ensures.front c.as_chunks.ensures.back_len (not_ranged _ _ _ c.loop-words.invariant c.loop-words-test.true _ c.from-note.ensures (sym c.note_ok.ensures ∙ c.if-not-note_ok.true))
-
-pub returns-then-not-note_follows : goal.returns-then-not-note_follows
-returns-then-not-note_follows c =
-    not_ok _ _ _ _ c.as_chunks.ensures.front c.as_chunks.ensures.back_len (not_follows _ _ _ c.loop-words.invariant c.loop-words-test.true _ c.from-note.ensures (sym c.note_follows.ensures ∙ c.if-not-note_follows.true))
+pub returns-then-not-in_order : goal.returns-then-not-in_order
+returns-then-not-in_order c =
+    let wrong = not_ordered _ _ _ c.loop-words.invariant c.loop-words-test.true _ c.from-note.ensures c.in_order.ensures c.if-not-in_order.true in
+    not_ok _ _ _ _ c.as_chunks.ensures.front c.as_chunks.ensures.back_len wrong
 
 pub cell_count-requires : goal.cell_count-requires
 cell_count-requires c =
-    let asks = count_asks _ _ _ c.requires (fair _ _ _ (sym c.note_ok.ensures ∙ c.if-not-note_ok.false)) in
+    let asks = count_asks _ _ _ c.requires (fair _ _ _ (and_left _ _ (sym c.in_order.ensures ∙ c.if-not-in_order.false))) in
     rw c.new-by.ensures (asks.2, asks.3)
 
 pub loop-words-preserved : goal.loop-words-preserved
 loop-words-preserved c =
-    checked-note _ _ _ c.loop-words.invariant c.loop-words-test.true _ c.from-note.ensures c.requires (sym c.note_ok.ensures ∙ c.if-not-note_ok.false) (sym c.note_follows.ensures ∙ c.if-not-note_follows.false)
+    checked-note _ _ _ c.loop-words.invariant c.loop-words-test.true _ c.from-note.ensures c.in_order.ensures c.requires c.if-not-in_order.false
     (c.cell_count.ensures ∙ ap (λ δ. length (cells_of_note δ c.from-note.result)) c.new-by.ensures)
 
 pub returns : goal.returns
