@@ -67,7 +67,7 @@ pub fn note_follows(m: Note, n: Note) -> bool
 }
 
 // What is asked of a note by itself and behind the note before it.
-pub fn in_order(delta: u32, beats: u32, last: Note, n: Note) -> bool
+pub(crate) fn in_order(delta: u32, beats: u32, last: Note, n: Note) -> bool
     requires { (delta ≤ max_delta) × (beats ≤ max_beats) }
     ensures { result ≡ (note_ok delta beats n && follows last n) }
 {
