@@ -2,13 +2,13 @@
 use mathlib.Core.Path.{ap, ◌≡◌, refl, sym, ◌∙◌}
 use mathlib.Core.Bool.{Bool, true, false, cond, not, ◌&&◌, and-true}
 use mathlib.Core.List.{List, [], ◌∷◌}
-use Prim.Native.Nat.{ℕ, ◌≤◌, ◌<◌}
+use Prim.Native.Nat.{ℕ, ◌+◌, ◌≤◌, ◌<◌}
 use native.Mathlib.Omega.{arith}
 use borrow.Author.Tests.{leb-true, ltb-true}
 use lib.Dec.{leb, ltb, eqb}
-use lib.ListN.{length}
+use lib.ListN.{length, get_or}
 use Rattle.words.specs.Splice.{splice}
-use Rattle.model.specs.Limits.{max_beats, max_delta}
+use Rattle.model.specs.Limits.{max_beats, max_delta, max_shelves, max_words}
 use Rattle.model.specs.Takes.{take_in, words_of, split_left, split_right}
 use Rattle.model.specs.Session.{header_of, words_of_header, shelf, shelf_at, put_shelf}
 use Rattle.model.specs.Soundness.{sound_shelf}
@@ -29,6 +29,7 @@ use Rattle.cuts.specs.Halving.{left_half, right_half, half_of, HalfAsks}
 use Rattle.cuts.specs.BothHalves.{Sides, BothAsks}
 use Rattle.beat.specs.Splitting.{split_asked, SplitAsks}
 use Rattle.beat.proofs.Calls.{after-done, unlike, header_ok_lem, number-rest, rest_refused}
+use Rattle.session.proofs.Sources.{beats_is, inside_session, place_asks}
 
 -- ---- questions 2 to 5
 
@@ -109,14 +110,23 @@ module _ {s : List ℕ} {h : Header} {i k l r : ℕ} (a : SplitAsks s h i k l r)
         beats_few = sound_beats h range.some-ticks (shelf h s i) yes.1.1.0;
       }
 
+  pub source_asks : (i < h.shelves) × (h.shelves ≤ max_shelves) × (h.words ≤ max_words)
+  source_asks = place_asks range granted.take_below
+
   pub left_asks : (h.delta ≤ max_delta) × (k ≤ max_beats)
   left_asks = (range.few_ticks, omega (arith, granted.beat_in, granted.beats_few))
 
-  module _ {n : ℕ} (beats_are : n ≡ (take_at h s i).beats) where
-    pub right_asks : (h.delta ≤ max_delta) × (n ≤ max_beats) × (k ≤ n)
+  module _ {at : ℕ} (place : at ≡ shelf_at h i) where
+    pub source_inside : at + h.words ≤ length s
+    source_inside = inside_session range granted.take_below place
+
+    beats_are : get_or s at 0 ≡ (take_at h s i).beats
+    beats_are = beats_is h s i range granted.take_below place
+
+    pub right_asks : (h.delta ≤ max_delta) × (get_or s at 0 ≤ max_beats) × (k ≤ get_or s at 0)
     right_asks = (range.few_ticks, omega (arith, beats_are, granted.beats_few), omega (arith, beats_are, granted.beat_in))
 
-    module _ {v : Half} (is : v ≡ left_half h.delta k) {u : Half} (also : u ≡ right_half h.delta k n) where
+    module _ {v : Half} (is : v ≡ left_half h.delta k) {u : Half} (also : u ≡ right_half h.delta k (get_or s at 0)) where
       first_asks : HalfAsks s h v i l
       unfolding half_of split_left
       first_asks =

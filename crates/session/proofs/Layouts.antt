@@ -2,16 +2,13 @@
 use mathlib.Core.Path.{◌≡◌, refl, sym, ap, ◌∙◌}
 use mathlib.Core.Bool.{Bool, true, false, ◌&&◌, and_assoc}
 use mathlib.Core.List.{List, [], ◌∷◌, ◌++◌}
-use Prim.Native.Nat.{ℕ, zero, suc, ◌+◌, ◌*◌, ◌-◌, ◌≤◌, ◌<◌}
-use native.Mathlib.Nat.{suc-mul}
+use Prim.Native.Nat.{ℕ, ◌-◌, ◌≤◌, ◌<◌}
 use native.Mathlib.Omega.{arith}
 use borrow.Author.Tests.{le-leb, lt-leb, eq-eqb, ne_eqb, eqb-true, eqb-false}
 use lib.Dec.{eqb}
 use lib.Bits.{bit_or, or_add_and, and_le_l, and_le_r}
-use lib.ListN.{length, take, drop, get_or, length-drop, take-append-drop}
-use lib.Seq.{take_all, drop-drop}
-use Rattle.std.proofs.lemmas.List.{at_drop_more}
-use Rattle.std.specs.Simd.{first_chunks}
+use lib.ListN.{length, take, drop, length-drop, take-append-drop}
+use lib.Seq.{take_all}
 use Rattle.std.specs.List.{fold}
 use Rattle.model.specs.Limits.{max_beats}
 use Rattle.model.specs.Lists.{every}
@@ -51,35 +48,16 @@ pub every_append : (xs ys : List ℕ) → every (eqb 0) (xs ++ ys) ≡ every (eq
 every_append [] ys = refl
 every_append (x ∷ xs) ys = rw (every_append xs ys) (sym (and_assoc (eqb 0 x) (every (eqb 0) xs) (every (eqb 0) ys)))
 
--- Are the words of some blocks and those behind them zeros?
-abbrev pub zeros_in : List (List ℕ) → List ℕ → Bool
-zeros_in blocks rest = every (every (eqb 0)) blocks && every (eqb 0) rest
+-- a block ahead of the other words
+module _ (n : ℕ) (ws : List ℕ) {block : List ℕ} (is : block ≡ take n ws) {r : ℕ} (e : r ≡ fold bit_or 0 block) where
+  parts : every (eqb 0) ws ≡ eqb r 0 && every (eqb 0) (drop n ws)
+  parts = ap (every (eqb 0)) (sym (take-append-drop n ws)) ∙ every_append (take n ws) (drop n ws) ∙ ap (λ (b : Bool). b && every (eqb 0) (drop n ws)) (sym (joined_zero block e ∙ ap (every (eqb 0)) is))
 
--- whole blocks, and what is left behind them
-pub zeros_blocks : (n k : ℕ) (ws : List ℕ) → zeros_in (first_chunks n k ws) (drop (k * n) ws) ≡ every (eqb 0) ws
-zeros_blocks n zero ws = let e : 0 * n ≡ 0 = omega arith in rw e refl
-zeros_blocks n (suc k) ws =
-    let e : suc k * n ≡ n + k * n = omega (arith, suc-mul k n) in
-    let behind : drop (suc k * n) ws ≡ drop (k * n) (drop n ws) = ap (λ (i : ℕ). drop i ws) e ∙ sym (drop-drop (k * n) n ws) in
-    ap (zeros_in (first_chunks n (suc k) ws)) behind
-    ∙ and_assoc (every (eqb 0) (take n ws)) (every (every (eqb 0)) (first_chunks n k (drop n ws))) (every (eqb 0) (drop (k * n) (drop n ws)))
-    ∙ ap (λ (b : Bool). every (eqb 0) (take n ws) && b) (zeros_blocks n k (drop n ws))
-    ∙ sym (every_append (take n ws) (drop n ws))
-    ∙ ap (every (eqb 0)) (take-append-drop n ws)
-
--- block i ahead of the others
-module _ (blocks : List (List ℕ)) (rest : List ℕ) (i : ℕ) (more : i < length blocks) {r : ℕ} (e : r ≡ fold bit_or 0 (get_or blocks i [])) where
-  parts : zeros_in (drop i blocks) rest ≡ eqb r 0 && zeros_in (drop (i + 1) blocks) rest
-  parts =
-      at_drop_more (λ bs. zeros_in bs rest) blocks i [] more
-      ∙ and_assoc (every (eqb 0) (get_or blocks i [])) (every (every (eqb 0)) (drop (i + 1) blocks)) (every (eqb 0) rest)
-      ∙ ap (λ (b : Bool). b && zeros_in (drop (i + 1) blocks) rest) (sym (joined_zero (get_or blocks i []) e))
-
-  pub block_not : (r ≡ 0 → ⊥) → false ≡ zeros_in (drop i blocks) rest
+  pub block_not : (r ≡ 0 → ⊥) → false ≡ every (eqb 0) ws
   block_not o = sym (parts ∙ rw (ne_eqb r 0 o))
 
-  pub block_past : r ≡ 0 → zeros_in (drop (i + 1) blocks) rest ≡ zeros_in (drop i blocks) rest
-  block_past z = sym (parts ∙ rw (eq-eqb r 0 z))
+  pub block_past : r ≡ 0 → {rest : List ℕ} → rest ≡ drop n ws → every (eqb 0) rest ≡ every (eqb 0) ws
+  block_past z f = ap (every (eqb 0)) f ∙ sym (parts ∙ rw (eq-eqb r 0 z))
 
 module _ (W : ℕ) (ws : List ℕ) where
   pub many_beats : max_beats < word ws 0 → false ≡ layout_ok W ws

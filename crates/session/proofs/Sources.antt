@@ -2,12 +2,15 @@
 use mathlib.Core.Path.{◌≡◌}
 use mathlib.Core.List.{List}
 use Prim.Native.Nat.{ℕ, ◌+◌, ◌-◌, ◌≤◌, ◌<◌}
-use native.Mathlib.Nat.{suc-mul, mul-le-mul_right}
+use native.Mathlib.Nat.{add-zero, suc-mul, mul-le-mul_right}
 use native.Mathlib.Omega.{arith}
-use lib.ListN.{length, take, drop}
+use lib.ListN.{length, get_or, take, drop}
+use lib.Seq.{get_or-drop, get_or-take}
 use Rattle.words.specs.Parts.{length_part}
 use Rattle.model.specs.Limits.{max_shelves, max_words}
 use Rattle.model.specs.Session.{shelf, shelf_at}
+use Rattle.model.specs.Questions.{take_at}
+use Rattle.model.specs.Takes.{take_in}
 use Rattle.model.specs.declared.Header.{Header}
 use Rattle.model.proofs.Headers.{InRange}
 
@@ -30,3 +33,7 @@ module _ (h : Header) (s : List ℕ) (i : ℕ) (range : InRange h (length s)) (b
 
   pub part_long : length (take (at + h.words - at) (drop at s)) ≡ h.words
   part_long = let w : at + h.words - at ≡ h.words = omega arith in rw w (length_part s at h.words (inside_session range below-K place))
+
+  pub beats_is : get_or s at 0 ≡ (take_at h s i).beats
+  unfolding take_in shelf
+  beats_is = rw (place, get_or-take h.words (drop (shelf_at h i) s) 0 0 (omega (arith, range.large)), get_or-drop (shelf_at h i) s 0 0, add-zero (shelf_at h i))

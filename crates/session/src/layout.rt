@@ -21,15 +21,17 @@ fn joined(words: &[u32]) -> u32
     words.iter().fold(0, |all, word| all | *word)
 }
 
-// Are all words zeros? In blocks, so that many words are looked at in one step; what is left behind the last whole block is looked at too.
+// Are all words zeros? In blocks, so that many words are looked at in one step; what is left behind the last whole block is looked at too. A `for`
+// over `as_chunks` was proved: with it, the loop over notes that follows in question 4 kept δ in memory, and a join took a fourteenth longer.
 fn are_zeros(words: &[u32]) -> bool
     ensures { result ≡ every (eqb 0) words.now }
 {
-    let (blocks, rest) = words.as_chunks::<64>();
-    for block in blocks {
+    let mut rest = words;
+    while let Some((block, behind)) = rest.split_first_chunk::<64>() {
         if joined(block) != 0 {
             return false;
         }
+        rest = behind;
     }
     joined(rest) == 0
 }
