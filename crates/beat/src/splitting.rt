@@ -44,7 +44,7 @@ fn put_halves(s: &mut [u32], h: Header, take: u32, beat: u32, left: u32, right: 
     requires { SplitAsks s.old h take beat left right }
     ensures { s.new ≡ put_all h s.old (results h s.old (split_call take beat left right)) }
 {
-    // Read at its place: by `beats_at` it was proved too, and a split took a tenth longer.
+    // Read at its place: a view that is made for one word is no plainer, and with it a split took a tenth longer.
     let at = header::shelf_at(h, take);
     let beats = s[at];
     let before = halves::left_half(h.delta, beat);

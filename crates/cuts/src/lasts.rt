@@ -31,7 +31,7 @@ impl<const WORDS: usize> Last<WORDS> {
         self.end - WORDS * self.left
     }
 
-    // The lane of the first: 2,048 if there is none. WORDS has a bound, so that an array of so many words is not too large.
+    // The lane of the first: 2,048 if there is none. WORDS has a bound: an array that stands only in the body has to be shown to be not too large.
     pub fn lane(self, s: &[u32]) -> u32
         requires some { (0 < WORDS) × (WORDS ≤ 6) }
         requires inside { self.end ≤ length s.now }

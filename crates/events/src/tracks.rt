@@ -1,6 +1,6 @@
 // The track of many notes: counted, and written, window by window in the order of the file.
-// The two loops stand apart as those of a window do. They count no index: a turn takes as many events as the next window holds. The lists of lanes
-// have just the lanes: where the events of each that are left begin and end, and room for where those behind a window begin.
+// The two loops stand apart as those of a window do. They count no index: a turn takes as many events as the next window holds. The starts are
+// just those of the lanes: where the events of each that are left begin. Of their ends, and of room for the starts behind a window, there are as many.
 ghost use Rattle.std.specs.Prelude.{◌≡◌, ◌+◌, ◌≤◌, length};
 ghost use Rattle.words.specs.Splice.{splice};
 ghost use Rattle.events.specs.Tracks.{track_left, track_most, events_left, TrackAsks};

@@ -5,7 +5,8 @@ ghost use Rattle.order.specs.Queues.{Queues};
 use crate::notes::Notes;
 
 // So many lanes: the events of lane l are those of the notes from place starts[l] up to ends[l]. Two tables and no table of pairs: the caller lends
-// both, and behind each window the places that `gather` wrote into a third table are copied over the starts, while the ends stay.
+// both, and behind each window the places that `gather` wrote into a third table are copied over the starts, while the ends stay. Pairs would be made
+// anew (no heap, and no table by value).
 #[derive(Clone, Copy)]
 pub struct Lanes<'a> {
     pub notes: Notes<'a>,

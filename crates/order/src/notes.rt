@@ -3,8 +3,8 @@ ghost use Rattle.std.specs.Prelude.{◌*◌, ◌≤◌, length};
 
 use crate::{number, velocity_at};
 
-// Some words, and how many notes stand at their beginning. No slice of arrays: the definitions speak of the events of a list of words (`events s i m`),
-// and a note is read by its place in them (`words[4 * i]`).
+// Some words, and how many notes stand at their beginning. A slice of arrays would be no plainer: the definitions and laws speak of the events of a
+// list of words (`events s i m`), and each would have to join the arrays again.
 #[derive(Clone, Copy)]
 pub struct Notes<'a> {
     pub words: &'a [u32],

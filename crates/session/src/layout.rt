@@ -22,7 +22,8 @@ fn joined(words: &[u32]) -> u32
 }
 
 // Are all words zeros? In blocks, so that many words are looked at in one step; what is left behind the last whole block is looked at too. A `for`
-// over `as_chunks` was proved: with it, the loop over notes that follows in question 4 kept δ in memory, and a join took a fourteenth longer.
+// over `as_chunks` was proved: with it, the loop over notes that follows in question 4 kept δ in memory, and a join of 1,000 notes took 1.04 times
+// as long as the second implementation's.
 fn are_zeros(words: &[u32]) -> bool
     ensures { result ≡ every (eqb 0) words.now }
 {

@@ -11,7 +11,7 @@ use crate::quantities;
 const END: u8 = 47;
 
 // Where reading stands: the position in the track, the tick of the last event, the running status in force (0: none). It is a byte, as in the
-// definition of a place: an Option would be no plainer, since no status is 0, and `runs` and `running_event` would take it apart. That the position
+// definition of a place: an Option would be no plainer, since no status is 0, and `form` and `short` would take it apart. That the position
 // is inside the track and the tick within 4,096 beats is asked where it is needed, and is no fact of the type: a cursor does not have its track, and
 // the tick behind an event is tested later.
 #[derive(Clone, Copy)]
@@ -317,8 +317,8 @@ impl Cursor {
         Event::Next(next, Some(note_message(status, s[at + 2], s[at + 3])))
     }
 
-    // What stands here, read as a note of a time of one or two groups. All bytes that may be read are read first, so that the position of the next
-    // event waits for one load and for no branch: times of one and of two groups follow each other in no order that a processor could foresee.
+    // What stands here, read as a note of a time of one or two groups. The bytes in which its time and its status may lie are read first, so that the
+    // position of the next event waits for one load and for no branch: times of one and of two groups follow each other in no order that a processor could foresee.
     #[inline(always)]
     fn form(self, s: &[u8]) -> Form
         requires { self.at + 5 ≤ length s.now }
@@ -342,7 +342,7 @@ impl Cursor {
     }
 
     // Does a note stand here whose time has one or two groups, 8n or 9n its own status or the one in force? Nearly all notes of files are such. A
-    // note of four bytes is one too: it is asked for first, since most events of a file with a status for each are read faster so.
+    // note of four bytes is one too, if a byte follows it: it is asked for first, since most events of a file with a status for each are read faster so.
     pub fn short(self, s: &[u8]) -> bool
         requires { self.at ≤ length s.now }
         ensures { result ≡ true → Short s.now self.at self.running }
