@@ -24,11 +24,21 @@ pub fn put<T: Copy, const N: usize>(s: &mut [T], at: usize, items: [T; N])
     s[at..at + N].copy_from_slice(&items);
 }
 
+// Copies a list over another as long. A loop: the library's `copy_from_slice` would be a call of `memmove`, which a C host may not have.
+pub fn copy<T: Copy>(to: &mut [T], from: &[T])
+    requires { length from.now ≡ length to.old }
+    ensures { to.new ≡ from.now }
+{
+    for (i, item) in to.iter_mut().enumerate() {
+        *item = from[i];
+    }
+}
+
 // Copies words to the places from `to` on.
 #[tactic(auto, using(crate::proofs::Copies::part_written))]
 pub fn copy_from(s: &mut [u32], to: usize, source: &[u32])
     requires { to + length source.now ≤ length s.old }
     ensures { s.new ≡ splice s.old to source.now }
 {
-    s[to..to + source.len()].copy_from_slice(source);
+    copy(&mut s[to..to + source.len()], source);
 }
