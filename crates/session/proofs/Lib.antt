@@ -1,5 +1,4 @@
 pub mod Entries
-pub mod Fewer
 pub mod Frames
 pub mod Counts
 pub mod Quotients

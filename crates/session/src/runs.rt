@@ -60,12 +60,16 @@ pub fn behind_run(h: Header, n: Note, cells: &[CellWords]) -> Option<&[CellWords
     ensures { cells_of_option result ≡ behind_run h n (cells_of cells.now) }
 {
     let first = first_of_run(h, cells);
-    let (c, _) = first_cell(first)?;
-    let (d, behind) = first_cell(last_of_run(h, first))?;
-    if !is_note_of_run(h.delta, n, c, d) {
+    // No run is left. A way out by itself, and no `?`, so that an edit can turn it alone.
+    let Some((c, _)) = first_cell(first) else {
         return None;
+    };
+    let (d, behind) = first_cell(last_of_run(h, first))?;
+    if is_note_of_run(h.delta, n, c, d) {
+        Some(behind)
+    } else {
+        None
     }
-    Some(behind)
 }
 
 // Do the cells give no note?
