@@ -15,15 +15,13 @@ use Rattle.model.specs.Machine.{listed}
 use Rattle.model.specs.Questions.{list_ok}
 use Rattle.model.specs.declared.Header.{Header}
 use Rattle.laws.specs.Booleans.{and_left, and_right}
-use Rattle.std.specs.Prelude.{Ok, Err}
+use Rattle.std.specs.Prelude.{Result, Ok, Err}
 use Rattle.model.specs.Numbers.{number_of, answer_of}
-use Rattle.model.proofs.Numbers.{yes_means, no_means}
+use Rattle.model.proofs.Numbers.{number_positive, yes_means}
 use Rattle.model.specs.declared.questions.Question.{Question}
 use Rattle.model.specs.declared.questions.Question.TheVariants.{BeatsFew, ResultFits}
 use Rattle.session.specs.Listing.{count_words, list_asked, cells_listed}
-use Rattle.beat.specs.Laying.{list_fits, lay_asked}
-
--- ---- question 7
+use Rattle.beat.specs.Laying.{recording_asked, list_fits, lay_asked}
 
 -- a list that passes is whole notes, in range, in order and without overlap
 pub record Listed (h : Header) (beats : ℕ) (ws : List ℕ) : Type 0 where
@@ -40,37 +38,53 @@ list_passed h beats ws e =
     }
 
 module _ (h : Header) (beats : ℕ) (ws : List ℕ) where
-  counted_means : (k : ℕ) → answer_of count_words (Ok k) ≡ list_asked h beats ws → (list_ok h beats ws ≡ true) × (k ≡ cells_listed h beats ws)
-  unfolding list_asked
-  counted_means k e =
-      let y = yes_means (list_ok h beats ws) 7 (omega arith) e in
-      (y.0, ap (λ (p : ℕ × List ℕ). get_or p.1 0 0) y.1)
+  -- ---- questions 6 and 7
 
-  list_refused : (q : Question) → answer_of count_words (Err q) ≡ list_asked h beats ws → (list_ok h beats ws ≡ false) × (number_of q ≡ 7)
-  unfolding list_asked
-  list_refused q e = no_means (list_ok h beats ws) 7 (cells_listed h beats ws ∷ []) q e
-
-  -- ---- the answer
-
-  pub too_long : max_beats < beats → answer_of count_words (Err BeatsFew) ≡ lay_asked h beats ws
-  unfolding lay_asked
+  pub too_long : max_beats < beats → answer_of count_words (Err BeatsFew) ≡ recording_asked h beats ws
+  unfolding recording_asked
   too_long above = rw (lt-leb beats max_beats above)
 
-  module _ (few : beats ≤ max_beats) where
-    pub no_list : (q : Question) → answer_of count_words (Err q) ≡ list_asked h beats ws → answer_of count_words (Err q) ≡ lay_asked h beats ws
-    unfolding lay_asked
-    no_list q e = let r = list_refused q e in rw (le-leb beats max_beats few, r.0, r.1)
+  -- of so few beats, the list decides
+  pub by_list : beats ≤ max_beats → (r : Result ℕ Question) → answer_of count_words r ≡ list_asked h beats ws → answer_of count_words r ≡ recording_asked h beats ws
+  unfolding recording_asked list_asked
+  by_list few r e = rw (le-leb beats max_beats few) e
 
-    module _ (k : ℕ) (e : answer_of count_words (Ok k) ≡ list_asked h beats ws) where
-      by_room : (t : Bool) → leb (words_used (length ws / 4) k) h.words ≡ t → cond t (0, k ∷ []) (8, []) ≡ lay_asked h beats ws
-      unfolding lay_asked list_fits
-      by_room t f = rw (le-leb beats max_beats few, (counted_means k e).0, ← (counted_means k e).1, f)
+  -- a refusal by one of them is lay's
+  pub no_list : (q : Question) → answer_of count_words (Err q) ≡ recording_asked h beats ws → answer_of count_words (Err q) ≡ lay_asked h beats ws
+  unfolding recording_asked lay_asked
+  no_list q e = go (leb beats max_beats) (list_ok h beats ws) e
+    where
+      go : (a b : Bool) → ◌≡◌ {A = ℕ × List ℕ} (number_of q, []) (cond a (cond b (0, cells_listed h beats ws ∷ []) (7, [])) (6, []))
+          → ◌≡◌ {A = ℕ × List ℕ} (number_of q, []) (cond a (cond b (list_fits h ws (cells_listed h beats ws)) (7, [])) (6, []))
+      go true true f = absurd (let z : number_of q ≡ 0 = ap (λ (p : ℕ × List ℕ). p.0) f in omega (arith, number_positive q))
+      go true false f = f
+      go false b f = f
 
-      pub no_room : leb (words_used (length ws / 4) k) h.words ≡ false → answer_of count_words (Err ResultFits) ≡ lay_asked h beats ws
-      no_room f = by_room false f
+  -- ---- question 8 of so many cells
 
-      pub room : leb (words_used (length ws / 4) k) h.words ≡ true → answer_of count_words (Ok k) ≡ lay_asked h beats ws
-      room f = by_room true f
+  module _ (k : ℕ) (e : answer_of count_words (Ok k) ≡ recording_asked h beats ws) where
+    -- both are answered yes
+    record Counted : Type 0 where
+      few : leb beats max_beats ≡ true
+      list : list_ok h beats ws ≡ true
+      cells : k ≡ cells_listed h beats ws
+
+    counted_means : Counted
+    unfolding recording_asked
+    counted_means =
+        let six = yes_means (leb beats max_beats) 6 (omega arith) e in
+        let seven = yes_means (list_ok h beats ws) 7 (omega arith) six.1 in
+        record { few = six.0; list = seven.0; cells = ap (λ (p : ℕ × List ℕ). get_or p.1 0 0) seven.1 }
+
+    by_room : (t : Bool) → leb (words_used (length ws / 4) k) h.words ≡ t → cond t (0, k ∷ []) (8, []) ≡ lay_asked h beats ws
+    unfolding lay_asked list_fits
+    by_room t f = let c = counted_means in rw (c.few, c.list, ← c.cells, f)
+
+    pub no_room : leb (words_used (length ws / 4) k) h.words ≡ false → answer_of count_words (Err ResultFits) ≡ lay_asked h beats ws
+    no_room f = by_room false f
+
+    pub room : leb (words_used (length ws / 4) k) h.words ≡ true → answer_of count_words (Ok k) ≡ lay_asked h beats ws
+    room f = by_room true f
 
   -- ---- what an answer tells
 

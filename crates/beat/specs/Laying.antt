@@ -9,6 +9,12 @@ use Rattle.model.specs.Questions.{header_ok, list_ok}
 use Rattle.model.specs.declared.Header.{Header}
 use Rattle.session.specs.Listing.{cells_listed}
 
+-- Questions 6 and 7, in this order: 0 with the number of the list's cells, or a refusal's number with nothing.
+unfoldable pub recording_asked : Header → ℕ → List ℕ → ℕ × List ℕ
+unfolding list_ok cells_listed
+recording_asked h beats ws =
+    cond (leb beats max_beats) (cond (list_ok h beats ws) (0, cells_listed h beats ws ∷ []) (7, [])) (6, [])
+
 -- 8. Do n, N and C, the list's notes and their cells fit W words?
 unfoldable pub list_fits : Header → List ℕ → ℕ → ℕ × List ℕ
 list_fits h ws count = cond (leb (words_used (length ws / 4) count) h.words) (0, count ∷ []) (8, [])

@@ -1,33 +1,28 @@
 // Lay: a lent note list becomes a recording in a shelf.
 ghost use Rattle.std.specs.Prelude.{◌≡◌, ◌≤◌, ◌<◌};
 ghost use Rattle.words.specs.Splice.{splice};
-ghost use Rattle.model.specs.Limits.{max_delta, max_words};
+ghost use Rattle.model.specs.Limits.{max_delta};
 ghost use Rattle.model.specs.Session.{shelf_at};
 ghost use Rattle.model.specs.Machine.{lay_call};
 ghost use Rattle.model.specs.Numbers.{answer_of, answer_number};
 ghost use Rattle.model.specs.Questions.{number, after};
 ghost use Rattle.session.specs.Listing.{count_words};
-ghost use Rattle.beat.specs.Laying.{lay_asked, laid_words, LayAsks};
+ghost use Rattle.beat.specs.Laying.{recording_asked, laid_words, LayAsks};
 
 use crate::cells;
 use model::Header;
 use model::questions::Question;
 use session::{header, list, room, shelf};
 
-// Questions 6, 7 and 8: how many cells the list's notes have, or the first that is answered no.
-fn asked(h: Header, beats: u32, notes: &[u32]) -> Result<u32, Question>
-    requires { (0 < h.delta) × (h.delta ≤ max_delta) × (h.words ≤ max_words) }
-    ensures { answer_of count_words result ≡ lay_asked h beats notes.now }
+// Questions 6 and 7: how many cells the list's notes have, or the first that is answered no.
+fn asked(h: Header, beats: u32, notes: &[u32]) -> Result<u64, Question>
+    requires { (0 < h.delta) × (h.delta ≤ max_delta) }
+    ensures { answer_of count_words result ≡ recording_asked h beats notes.now }
 {
     if Header::BEATS < beats {
         return Err(Question::BeatsFew);
     }
-    let cells = list::check_list(h, beats, notes)?;
-    let count = (notes.len() / 4) as u64;
-    if !room::fits(h.words, count, cells) {
-        return Err(Question::ResultFits);
-    }
-    Ok(cells as u32)
+    list::check_list(h, beats, notes)
 }
 
 // The notes copied, their cells behind them, the counts ahead and zeros to the shelf's end.
@@ -49,6 +44,10 @@ pub fn take_lay(session: &mut [u32], shelf: u32, beats: u32, notes: &[u32]) -> R
 {
     let header = header::enter(session, shelf)?;
     let cells = asked(header, beats, notes)?;
-    put_list(session, header, shelf, beats, notes, cells);
+    let count = (notes.len() / 4) as u64;
+    if !room::fits(header.words, count, cells) {
+        return Err(Question::ResultFits);
+    }
+    put_list(session, header, shelf, beats, notes, cells as u32);
     Ok(())
 }
