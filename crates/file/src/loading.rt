@@ -40,7 +40,11 @@ fn load_track(s: &mut [u32], h: Header, shelf: u32, track: &[u8]) -> Result<(), 
     ensures words { s.new ≡ read_after h s.old shelf (read_track h.delta track.now) }
 {
     let mut counts = [0u32; 2048];
-    let counted = counting::count_track(track, h.delta, &mut counts)?;
+    // A refusal is passed on by a `match`, and no `?`, so that an edit can turn it alone.
+    let counted = match counting::count_track(track, h.delta, &mut counts) {
+        Ok(counted) => counted,
+        Err(question) => return Err(question),
+    };
     if !room::fits(h.words, counted.notes, counted.cells) {
         return Err(Question::ResultFits);
     }
