@@ -1,14 +1,13 @@
 -- The calls of frames: what each leaves, by the way that it goes. Assumes nothing.
-use Rattle.std.specs.Prelude.{◌≡◌, refl, Bool, true, false, List, [], ◌++◌, ℕ, zero, suc, ◌-◌, ◌*◌, ◌/◌, ◌%◌, ◌≤◌, ◌<◌, leb, length, get_or, take, drop, Result, Ok, Err}
-use Rattle.std.proofs.Common.{sym, ap, ◌∙◌, arith, ne_eqb, length-append, length-drop}
+use Rattle.std.specs.Prelude.{◌≡◌, refl, Bool, true, false, List, [], ◌++◌, ℕ, zero, suc, ◌-◌, ◌/◌, ◌%◌, ◌≤◌, ◌<◌, leb, length, get_or, take, drop, Result, Ok, Err}
+use Rattle.std.proofs.Common.{sym, ap, ◌∙◌, arith, ne_eqb, length-drop}
 use Rattle.std.proofs.lemmas.Bool.{le-leb, lt-leb, eq-eqb}
-use Rattle.std.proofs.lemmas.List.{length-replicate}
 use borrow.Author.Tests.{leb-true}
-use lib.ListN.{replicate, take-append-drop}
-use lib.Seq.{length-take-le, take_all, take_at}
+use lib.ListN.{take-append-drop}
+use lib.Seq.{length-take-le, take_all}
 use Rattle.words.specs.Splice.{splice}
 use Rattle.words.specs.Parts.{part-splice-written}
-use Rattle.model.specs.Session.{session_length, words_of_header, fresh_words}
+use Rattle.model.specs.Session.{session_length, fresh_words}
 use Rattle.model.specs.Machine.{open_call, lay_call, split_call, join_call}
 use Rattle.model.specs.Questions.{header_ok, number, after}
 use Rattle.model.specs.declared.Header.{Header}
@@ -166,11 +165,6 @@ module _ (s bytes out : List ℕ) where
 
 -- ---- open
 
-length_fresh : (h : Header) → length (fresh_words h) ≡ session_length h
-unfolding fresh_words
-length_fresh h =
-    length-append (words_of_header h) (replicate (h.shelves * h.words) 0) ∙ omega (arith, length-replicate {A = ℕ} (h.shelves * h.words) 0)
-
 -- the header of four words
 abbrev pub header : List ℕ → Header
 header ws = record { delta = get_or ws 0 0; epsilon = get_or ws 1 0; shelves = get_or ws 2 0; words = get_or ws 3 0 }
@@ -223,19 +217,13 @@ module _ (s bytes : List ℕ) where
               file = refl;
             }
 
-      pub open_accepted : q ≡ 0 → Changed s (open_of bytes) (take (session_length (header ws)) (p ++ drop (session_length (header ws)) words)) (Ok tt)
+      pub open_accepted : q ≡ 0 → Changed s (open_of bytes) p (Ok tt)
       unfolding number_of session_after file_after opens
       open_accepted e = rw right (go (header_ok (header ws) (session_length (header ws))) refl) where
-        go : (b : Bool) → header_ok (header ws) (session_length (header ws)) ≡ b
-            → Changed s (open_frame (header ws)) (take (session_length (header ws)) (p ++ drop (session_length (header ws)) words)) (Ok tt)
+        go : (b : Bool) → header_ok (header ws) (session_length (header ws)) ≡ b → Changed s (open_frame (header ws)) p (Ok tt)
         go true h =
             let fresh : p ≡ fresh_words (header ws) = done.1 ∙ sym (open_done (take (session_length (header ws)) words) (header ws) (rw given_length h) refl).1 in
-            let long = length_fresh (header ws) in
-            record {
-              number = rw (yes, h);
-              session = rw (yes, h, fresh) (take_at (fresh_words (header ws)) (drop (session_length (header ws)) words) (session_length (header ws)) (omega arith));
-              file = refl;
-            }
+            record { number = rw (yes, h); session = rw (yes, h, fresh); file = refl }
         go false h =
             let one = (open_refused (take (session_length (header ws)) words) (header ws) (rw given_length h)).0 in
             let wrong : ◌≡◌ {A = ℕ} 0 1 = sym e ∙ done.0 ∙ sym one in

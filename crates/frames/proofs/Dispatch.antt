@@ -1,5 +1,5 @@
 -- The answer to a frame by its call byte. Assumes nothing.
-use Rattle.std.specs.Prelude.{◌≡◌, refl, Bool, true, false, cond, List, [], ◌∷◌, ◌++◌, ℕ, ◌+◌, ◌-◌, ◌*◌, ◌≤◌, eqb, length, get_or, set, take, drop, Result, Ok, Some, None}
+use Rattle.std.specs.Prelude.{◌≡◌, refl, Bool, true, false, cond, List, [], ◌∷◌, ◌++◌, ℕ, ◌+◌, ◌-◌, ◌*◌, ◌≤◌, eqb, length, get_or, set, take, drop, Ok, Some, None}
 use Rattle.std.proofs.Common.{sym, ap, ◌∙◌, arith, ne_eqb, length-append}
 use Rattle.std.proofs.lemmas.Bool.{eq-eqb}
 use lib.Seq.{take_all}
@@ -8,10 +8,12 @@ use Rattle.midi.specs.Numbers.{word32}
 use Rattle.frames.specs.Digits.{byte_digits, digits_of}
 use Rattle.frames.specs.Lines.{Frame, malformed, write_frame, with_words, open_of, lay_of, split_of, join_of, write_of, load_of, change_of, call_of, frame_of, decoded, frame_read, frame_in}
 use Rattle.frames.specs.Answers.{number_of, session_after, file_after, answer_of}
-use Rattle.frames.specs.Calling.{number_in, Changed, Wrote}
-use Rattle.frames.specs.Answering.{Put, Answers}
-use Rattle.frames.specs.declared.calls.Refusal.{Refusal}
+use Rattle.frames.specs.Calling.{number_in, Wrote}
+use Rattle.frames.specs.Answering.{Put}
+use Rattle.frames.specs.Lent.{Opened, AnswersIn}
+use Rattle.frames.specs.declared.calls.Done.{Done}
 use Rattle.frames.proofs.Putting.{length-digits_of}
+use Rattle.frames.proofs.Lending.{call_kept}
 use Rattle.frames.proofs.Carried.{nothing}
 
 -- ---- the frame of a call byte
@@ -86,14 +88,15 @@ no_file s f is none = rw (none, ← is)
 pub put_line : (out : List ℕ) (at n : ℕ) {out₁ : List ℕ} → out₁ ≡ splice out at (byte_digits n) → Put out at (byte_digits n ++ 10 ∷ []) (set out₁ (at + 2) 10) (at + 3)
 put_line out at n e = record { output = rw e (sym (splice_snoc out at (byte_digits n) 10)); end = refl; few = omega arith }
 
-pub answered : {s : List ℕ} {f : Frame} {s' : List ℕ} {r : Result (Unit {0}) Refusal} → Changed s f s' r → (out : List ℕ) (at : ℕ) {out' : List ℕ} {to : ℕ}
-    → Put out at (byte_digits (number_in r) ++ 10 ∷ []) out' to → Answers s out at f s' out' to
-answered {s} {f} c out at p = record { session = c.session; put = rw (no_file s f c.number c.file) at p }
+module _ {words : List ℕ} {held : ℕ} {f : Frame} (out : List ℕ) (at : ℕ) {out' : List ℕ} {to : ℕ} where
+  pub answered : {words' : List ℕ} {r : Done} → Opened words held f words' r → Put out at (byte_digits (number_in r.outcome) ++ 10 ∷ []) out' to
+      → AnswersIn words held out at f words' out' (record { length = r.size; end = to })
+  answered o p = record { gives = o.gives; put = rw (no_file (take held words) f o.number o.file) at p }
 
--- the answer to a malformed line
-pub answer_none : (s : List ℕ) {f : Frame} → f ≡ malformed → (out : List ℕ) (at : ℕ) {out' : List ℕ} {to : ℕ} → Put out at (byte_digits 255 ++ 10 ∷ []) out' to
-    → Answers s out at f s out' to
-answer_none s e out at p = answered (nothing s e) out at p
+  -- the answer to a malformed line
+  pub answer_none : length words ≡ 8192 → held ≤ 8192 → f ≡ malformed → Put out at (byte_digits 255 ++ 10 ∷ []) out' to
+      → AnswersIn words held out at f words out' (record { length = held; end = to })
+  answer_none whole within e p = answered (call_kept whole within (nothing (take held words) e)) p
 
 module _ {s : List ℕ} {f : Frame} {file : List ℕ} {n : ℕ} (w : Wrote s f file (Ok n)) (out : List ℕ) (at : ℕ) {out₁ : List ℕ} (a : out₁ ≡ splice out at (byte_digits 0))
     {out₂ : List ℕ} {to : ℕ} (e : to ≡ at + 2 + 2 * length (take n file)) (b : out₂ ≡ splice out₁ (at + 2) (digits_of (take n file))) where

@@ -1,19 +1,24 @@
 -- Input byte by byte: what one byte leaves, and bytes one behind the other. Assumes nothing.
-use Rattle.std.specs.Prelude.{◌≡◌, refl, List, [], ◌∷◌, ◌++◌, ℕ, zero, suc, ◌+◌, ◌-◌, ◌*◌, ◌≤◌, ◌<◌, length, get_or, take, drop}
+use Rattle.std.specs.Prelude.{◌≡◌, refl, List, [], ◌∷◌, ◌++◌, ℕ, zero, suc, ◌+◌, ◌-◌, ◌*◌, ◌≤◌, ◌<◌, length, get_or, set, take, drop}
 use Rattle.std.proofs.Common.{sym, ap, ◌∙◌, append-nil, append_assoc, add-one, arith, ne_eqb, length-append, length-drop, length-take-le, drop_of_length-le}
+use Rattle.std.proofs.lemmas.Bool.{lt-ltb, le-ltb}
 use Rattle.std.proofs.lemmas.List.{drop-append-le}
 use lib.ListN.{take-append-drop}
-use lib.Seq.{take_all, take-suc, drop-drop}
+use lib.Seq.{take_all, take-suc, take-suc-set, drop-drop}
 use Rattle.words.specs.Splice.{splice, splice-append}
 use Rattle.frames.specs.Lines.{frame_in}
 use Rattle.frames.specs.Answers.{answer_of, line_answer, line_after}
 use Rattle.frames.specs.Answering.{Answers}
 use Rattle.frames.specs.Input.{kept, taken, written, taken_all, written_all, written_last}
 use Rattle.frames.specs.Blocks.{Takes, TakesOne, ReadOn}
+use Rattle.frames.specs.Lent.{AnswersIn, reading_of, Holds, TakesOneIn, ReadOnIn}
 use Rattle.frames.specs.Loop.{Flushed, ReadWhole, Reads, ReadSome, Last}
+use Rattle.frames.specs.declared.answers.Answered.{Answered}
 use Rattle.frames.specs.declared.input.Reading.{Reading}
 use Rattle.frames.specs.declared.input.Stop.{Stop}
-use Rattle.frames.specs.declared.program.Progress.{Progress}
+use Rattle.frames.specs.declared.input.Progress.{Progress}
+use Rattle.frames.specs.declared.program.Progress as Program
+use Rattle.frames.proofs.Lending.{answers_of}
 use Rattle.frames.proofs.Putting.{take-splice}
 
 -- ---- one byte
@@ -111,6 +116,88 @@ module _ {r : Reading} {out : List ℕ} {at : ℕ} {block : List ℕ} {i : ℕ} 
       let all : take i block ≡ take (length block) block = take_all i block end ∙ sym (take_all (length block) block (omega arith)) in
       record { within = omega arith; takes = rw all at g.takes; room = g.inside; stops = λ h. absurd (omega arith) }
 
+-- ---- lent lists
+
+module _ (line : List ℕ) (n c : ℕ) (whole : length line ≡ 4001) where
+  pub keep_more : n < 4001 → take (n + 1) (set line n c) ≡ kept (take n line) c
+  keep_more h =
+      let long = length-take-le n line (omega arith) in
+      rw (add-one n, take-suc-set line n c (omega arith), lt-ltb (length (take n line)) 4001 (omega arith))
+
+  pub keep-none : n ≤ 4001 → 4001 ≤ n → take n line ≡ kept (take n line) c
+  keep-none low h = let long = length-take-le n line (omega arith) in rw (le-ltb (length (take n line)) 4001 (omega arith))
+
+module _ {line words out : List ℕ} {p : Progress} (h : Holds line words p) where
+  pub line_ended : {words' out' : List ℕ} {r : Answered} → AnswersIn words p.length out p.end (frame_in (take p.kept line)) words' out' r → length words' ≡ length words
+      → TakesOneIn line words out p 10 line words' out' (record { at = p.at; kept = 0; length = r.length; end = r.end })
+  line_ended a same =
+      record {
+        holds = record { characters = h.characters; whole = same ∙ h.whole; few = omega arith; held = a.gives.few };
+        one = takes-end (answers_of h.whole a);
+      }
+
+  pub character_kept : {c : ℕ} → (c ≡ 10 → ⊥) → {n : ℕ} {line' : List ℕ} → n ≤ 4001 → take n line' ≡ kept (take p.kept line) c → length line' ≡ length line
+      → TakesOneIn line words out p c line' words out (record { at = p.at; kept = n; length = p.length; end = p.end })
+  character_kept other few e same =
+      record {
+        holds = record { characters = same ∙ h.characters; whole = h.whole; few = few; held = h.held };
+        one = takes_kept other e;
+      }
+
+-- the first i bytes behind p's place are taken
+pub record GoesIn (block line₀ words₀ out₀ : List ℕ) (p : Progress) (i : ℕ) (line words out : List ℕ) (kept held end : ℕ) : Type 0 where
+  pub holds : Holds line words (record { at = p.at + i; kept = kept; length = held; end = end })
+  pub goes : Goes (reading_of line₀ words₀ p) out₀ p.end (drop p.at block) i (record { session = take held words; line = take kept line }) out end
+  pub long : length out ≡ length out₀
+
+pub lent_start : {block line words out : List ℕ} {p : Progress} → Holds line words p → p.end ≤ length out
+    → GoesIn block line words out p 0 line words out p.kept p.length p.end
+lent_start {block} {line} {words} {out} {p} h inside =
+    record {
+      holds = record { characters = h.characters; whole = h.whole; few = h.few; held = h.held };
+      goes = goes_start (reading_of line words p) out p.end (drop p.at block) inside;
+      long = refl;
+    }
+
+module _ {block line₀ words₀ out₀ : List ℕ} {p : Progress} {i : ℕ} {line words out : List ℕ} {kept held end : ℕ} (g : GoesIn block line₀ words₀ out₀ p i line words out kept held end) where
+  pub lent_on : i < length (drop p.at block) → end + 16387 ≤ length out → {line' words' out' : List ℕ} {t : Progress} → length out' ≡ length out
+      → {c : ℕ} → get_or (drop p.at block) i 0 ≡ c → TakesOneIn line words out (record { at = p.at + i; kept = kept; length = held; end = end }) c line' words' out' t
+      → GoesIn block line₀ words₀ out₀ p (i + 1) line' words' out' t.kept t.length t.end
+  lent_on more room same byte one =
+      let h = one.holds in
+      record {
+        holds = record { characters = h.characters; whole = h.whole; few = h.few; held = h.held };
+        goes = goes_on g.goes more (omega (arith, g.long)) (rw byte one.one);
+        long = same ∙ g.long;
+      }
+
+  pub lent_stop : i < length (drop p.at block) → length out < end + 16387
+      → ReadOnIn block line₀ words₀ out₀ p line words out (record { at = p.at + i; kept = kept; length = held; end = end })
+  lent_stop more full =
+      let back : p.at + i - p.at ≡ i = omega arith in
+      record { low = omega arith; holds = g.holds; read = rw back (goes_stop g.goes more (omega (arith, g.long))) }
+
+  pub lent_done : p.at ≤ length block → length (drop p.at block) ≤ i
+      → ReadOnIn block line₀ words₀ out₀ p line words out (record { at = length block; kept = kept; length = held; end = end })
+  lent_done within none =
+      let h = g.holds in
+      let back : length block - p.at ≡ length (drop p.at block) = sym (length-drop p.at block) in
+      record {
+        low = within;
+        holds = record { characters = h.characters; whole = h.whole; few = h.few; held = h.held };
+        read = rw back (goes_done g.goes none);
+      }
+
+-- the bytes behind a place, as a part of the block
+pub behind : (block : List ℕ) (at : ℕ) → take (length block - at) (drop at block) ≡ drop at block
+behind block at = take_all (length block - at) (drop at block) (omega (arith, length-drop at block))
+
+-- a block that is read from its start
+pub read_whole : {block line words out : List ℕ} {kept length end : ℕ} {line' words' out' : List ℕ} {q : Progress}
+    → ReadOnIn block line words out (record { at = 0; kept = kept; length = length; end = end }) line' words' out' q
+    → ReadOn block (record { session = take length words; line = take kept line }) out end (reading_of line' words' q) out' (record { taken = q.at; end = q.end })
+read_whole {q = q} h = let all : q.at - 0 ≡ q.at = omega arith in rw all at h.read
+
 -- ---- answers that are collected
 
 -- what stands ahead of the place, and the answers behind it
@@ -118,12 +205,12 @@ pub collected : {r : Reading} {out : List ℕ} {at : ℕ} {bs : List ℕ} {r' : 
     → take to out' ≡ take at out ++ written_all r bs
 collected {r} {out} {at} {bs} t inside = rw (t.output, t.end) (take-splice out at (written_all r bs) (omega (arith, t.end)))
 
-pub whole_none : (p : Progress) → ReadWhole p [] 0 p
+pub whole_none : (p : Program.Progress) → ReadWhole p [] 0 p
 unfolding taken_all written_all
 whole_none p = record { state = refl; count = omega arith; output = sym (append-nil p.answers) }
 
 -- all that is collected is written
-pub whole_flushed : {p : Progress} {n : ℕ} {q : Progress} → Flushed p n q → ReadWhole p [] n q
+pub whole_flushed : {p : Program.Progress} {n : ℕ} {q : Program.Progress} → Flushed p n q → ReadWhole p [] n q
 unfolding taken_all written_all
 whole_flushed {p} {n} f =
     rw f.emptied
@@ -133,7 +220,7 @@ whole_flushed {p} {n} f =
       output = sym (ap (drop n) (append-nil p.answers) ∙ drop_of_length-le p.answers {i = n} (omega (arith, f.count)));
     })
 
-pub whole_append : {p : Progress} {bs : List ℕ} {m : ℕ} {q : Progress} {cs : List ℕ} {n : ℕ} {t : Progress}
+pub whole_append : {p : Program.Progress} {bs : List ℕ} {m : ℕ} {q : Program.Progress} {cs : List ℕ} {n : ℕ} {t : Program.Progress}
     → ReadWhole p bs m q → ReadWhole q cs n t → ReadWhole p (bs ++ cs) (m + n) t
 whole_append {p} {bs} {m} {q} {cs} {n} {t} a b =
     let r = p.reading in
@@ -179,31 +266,31 @@ pub last_unread : (answers : List ℕ) (r : Reading) → r.line ≡ [] → answe
 last_unread answers r e = sym (ap (λ (x : List ℕ). answers ++ x) (last_none r e) ∙ append-nil answers)
 
 -- some bytes of the block are read, and the others are left
-pub record Between (p : Progress) (block left : List ℕ) (sent : ℕ) (q : Progress) : Type 0 where
+pub record Between (p : Program.Progress) (block left : List ℕ) (sent : ℕ) (q : Program.Progress) : Type 0 where
   pub read : List ℕ
   pub parts : read ++ left ≡ block
   pub whole : ReadWhole p read sent q
   pub few : sent ≤ length read * 65536
 
-pub between_start : (p : Progress) (block : List ℕ) → Between p block block 0 p
+pub between_start : (p : Program.Progress) (block : List ℕ) → Between p block block 0 p
 between_start p block = record { read = []; parts = refl; whole = whole_none p; few = omega arith }
 
 -- where there is room for an answer, a byte is taken
-pub reads_some : {left : List ℕ} {p : Progress} {n : ℕ} {q : Progress} → Reads left p n q → 1 ≤ length left → length p.answers + 16387 ≤ 65536 → 1 ≤ n
+pub reads_some : {left : List ℕ} {p : Program.Progress} {n : ℕ} {q : Program.Progress} → Reads left p n q → 1 ≤ length left → length p.answers + 16387 ≤ 65536 → 1 ≤ n
 unfolding written_all
 reads_some {p = p} {n = zero} {q} r some room =
     let same : q.answers ≡ p.answers = r.whole.output ∙ append-nil p.answers in
     absurd (omega (arith, r.stops some, ap length same))
 reads_some {n = suc n} r some room = omega arith
 
-pub reads_less : {left : List ℕ} {p : Progress} {n : ℕ} {q : Progress} → Reads left p n q → 1 ≤ length left → length p.answers + 16387 ≤ 65536
+pub reads_less : {left : List ℕ} {p : Program.Progress} {n : ℕ} {q : Program.Progress} → Reads left p n q → 1 ≤ length left → length p.answers + 16387 ≤ 65536
     → length (take (length left - n) (drop n left)) < length left
 reads_less {left = left} {n = n} r some room =
     let long = length-drop n left in
     omega (arith, reads_some r some room, r.within, length-take-le (length left - n) (drop n left) (omega arith))
 
-module _ {p : Progress} {block left : List ℕ} {sent : ℕ} {q : Progress} (b : Between p block left sent q) where
-  pub between_on : {m : ℕ} {t : Progress} → ReadWhole q [] m t → m ≤ 65536 → {n : ℕ} {u : Progress} → Reads left t n u → 1 ≤ n
+module _ {p : Program.Progress} {block left : List ℕ} {sent : ℕ} {q : Program.Progress} (b : Between p block left sent q) where
+  pub between_on : {m : ℕ} {t : Program.Progress} → ReadWhole q [] m t → m ≤ 65536 → {n : ℕ} {u : Program.Progress} → Reads left t n u → 1 ≤ n
       → Between p block (take (length left - n) (drop n left)) (sent + m) u
   between_on {m} {t} room small {n} {u} r some =
       let all : ReadWhole p ((b.read ++ []) ++ take n left) (sent + m + 0) u = whole_append (whole_append b.whole room) r.whole in
@@ -225,13 +312,13 @@ module _ {p : Progress} {block left : List ℕ} {sent : ℕ} {q : Progress} (b :
 
 -- ---- standard input
 
-pub some-none : (p : Progress) → ReadSome p p
+pub some-none : (p : Program.Progress) → ReadSome p p
 some-none p = record { input = []; sent = 0; whole = whole_none p }
 
-pub some_more : {p q : Progress} {bytes : List ℕ} {n : ℕ} {t : Progress} → ReadSome p q → ReadWhole q bytes n t → ReadSome p t
+pub some_more : {p q : Program.Progress} {bytes : List ℕ} {n : ℕ} {t : Program.Progress} → ReadSome p q → ReadWhole q bytes n t → ReadSome p t
 some_more {bytes = bytes} {n} a b = record { input = a.input ++ bytes; sent = a.sent + n; whole = whole_append a.whole b }
 
-pub last_whole : {p : Progress} {n : ℕ} {q : Progress} → Flushed p n q → {t : Progress} → t.answers ≡ q.answers ++ written_last q.reading
+pub last_whole : {p : Program.Progress} {n : ℕ} {q : Program.Progress} → Flushed p n q → {t : Program.Progress} → t.answers ≡ q.answers ++ written_last q.reading
     → Last p t (n + length t.answers)
 last_whole {p} {n} f {t} e =
     let made : t.answers ≡ written_last p.reading = rw f.emptied at e in

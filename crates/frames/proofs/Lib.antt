@@ -2,6 +2,7 @@
 pub mod Decoding
 pub mod Putting
 pub mod Words
+pub mod Lending
 pub mod Carried
 pub mod Numbers
 pub mod Dispatch

@@ -8,5 +8,6 @@ pub mod Answering
 pub mod Input
 pub mod Whole
 pub mod Blocks
+pub mod Lent
 pub mod Loop
 pub mod Examples

@@ -2,13 +2,28 @@
 ghost use Rattle.std.specs.Prelude.{◌≡◌, [], ◌∷◌, ◌++◌, ◌+◌, ◌≤◌, length};
 ghost use Rattle.frames.specs.Digits.{byte_digits};
 ghost use Rattle.frames.specs.Lines.{write_of, call_of, frame_of, frame_in};
-ghost use Rattle.frames.specs.Answers.{answer_of};
+ghost use Rattle.frames.specs.Answers.{max_session, answer_of};
 ghost use Rattle.frames.specs.Calling.{number_in};
 ghost use Rattle.frames.specs.Answering.{max_answer, Put, Answers};
+ghost use Rattle.frames.specs.Lent.{AnswersIn};
 
 use crate::calls::{OUTPUT_BYTES, Refusal};
 use crate::sessions::Session;
 use crate::{calls, digits};
+
+// What a line leaves: the length of the session in words, and the place behind the answer in the output.
+#[derive(Clone, Copy)]
+pub struct Answered {
+    pub length: usize,
+    pub end: usize,
+}
+
+// What is left where the session has this length, and the answer ends here.
+fn leaves(length: usize, end: usize) -> Answered
+    ensures { result ≡ record { length = length; end = end } }
+{
+    Answered { length, end }
+}
 
 // The number of an outcome.
 fn number(outcome: Result<(), Refusal>) -> u8
@@ -50,39 +65,68 @@ fn answer_write(session: &[u32], bytes: &[u8], out: &mut [u8], at: usize) -> usi
     }
 }
 
-// Carries a call out on the session, and writes its answer.
-fn answer_call(call: u8, bytes: &[u8], session: &mut Session, out: &mut [u8], at: usize) -> usize
+// Carries a call out on the session, the first `held` words of a list that is lent, so that no caller copies one. Writes its answer.
+fn answer_call(
+    call: u8,
+    bytes: &[u8],
+    words: &mut [u32],
+    held: usize,
+    out: &mut [u8],
+    at: usize,
+) -> Answered
     requires room { at + max_answer ≤ length out.old }
     requires few { length bytes.now ≤ 2000 }
-    ensures { Answers session.old out.old at (call_of call bytes.now) session.new out.new result }
+    requires within { held ≤ max_session }
+    requires whole { length words.old ≡ max_session }
+    ensures { AnswersIn words.old held out.old at (call_of call bytes.now) words.new out.new result }
 {
     match call {
-        1 => put_number(out, at, session.open(bytes)),
-        5 => answer_write(session.as_slice(), bytes, out, at),
-        _ => put_number(out, at, session.change(call, bytes)),
+        1 => {
+            let done = calls::open_frame(words, held, bytes);
+            leaves(done.size, put_number(out, at, done.outcome))
+        }
+        5 => leaves(held, answer_write(&words[..held], bytes, out, at)),
+        _ => {
+            let outcome = calls::change(&mut words[..held], call, bytes);
+            leaves(held, put_number(out, at, outcome))
+        }
     }
 }
 
 // Answers a frame's bytes; a frame of no bytes is malformed.
-fn answer_frame(frame: &[u8], session: &mut Session, out: &mut [u8], at: usize) -> usize
+fn answer_frame(frame: &[u8], words: &mut [u32], held: usize, out: &mut [u8], at: usize) -> Answered
     requires room { at + max_answer ≤ length out.old }
     requires few { length frame.now ≤ 2000 }
-    ensures { Answers session.old out.old at (frame_of frame.now) session.new out.new result }
+    requires within { held ≤ max_session }
+    requires whole { length words.old ≡ max_session }
+    ensures { AnswersIn words.old held out.old at (frame_of frame.now) words.new out.new result }
 {
     match frame {
-        [call, bytes @ ..] => answer_call(*call, bytes, session, out, at),
-        [] => put_number(out, at, Err(Refusal::Malformed)),
+        [call, bytes @ ..] => answer_call(*call, bytes, words, held, out, at),
+        [] => leaves(held, put_number(out, at, Err(Refusal::Malformed))),
     }
 }
 
-// Answers a line: carries its call out on the session, and writes the answer from place `at` on. Returns the place behind it.
+// Answers a line: carries its call out on the session, the first `held` words, and writes the answer from place `at` on.
+pub fn answer_in(line: &[u8], words: &mut [u32], held: usize, out: &mut [u8], at: usize) -> Answered
+    requires room { at + max_answer ≤ length out.old }
+    requires within { held ≤ max_session }
+    requires whole { length words.old ≡ max_session }
+    ensures { AnswersIn words.old held out.old at (frame_in line.now) words.new out.new result }
+{
+    let mut bytes = [0; digits::MAX_BYTES];
+    match digits::decode(line, &mut bytes) {
+        Some(count) => answer_frame(&bytes[..count], words, held, out, at),
+        None => leaves(held, put_number(out, at, Err(Refusal::Malformed))),
+    }
+}
+
+// Answers a line on a session that owns its words. Returns the place behind the answer.
 pub fn answer(line: &[u8], session: &mut Session, out: &mut [u8], at: usize) -> usize
     requires { at + max_answer ≤ length out.old }
     ensures { Answers session.old out.old at (frame_in line.now) session.new out.new result }
 {
-    let mut bytes = [0; digits::MAX_BYTES];
-    match digits::decode(line, &mut bytes) {
-        Some(count) => answer_frame(&bytes[..count], session, out, at),
-        None => put_number(out, at, Err(Refusal::Malformed)),
-    }
+    let done = answer_in(line, &mut session.items, session.count, out, at);
+    session.count = done.length;
+    done.end
 }

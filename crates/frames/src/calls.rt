@@ -1,11 +1,13 @@
 // The calls of frames: each takes the bytes behind the call byte.
-ghost use Rattle.std.specs.Prelude.{◌≡◌, ◌+◌, ◌*◌, ◌≤◌, length};
-ghost use Rattle.frames.specs.Lines.{arguments, change_of, lay_of, split_of, join_of, write_of, load_of};
-ghost use Rattle.frames.specs.Answers.{output_bytes};
+ghost use Rattle.std.specs.Prelude.{◌≡◌, ◌+◌, ◌*◌, ◌≤◌, length, Err};
+ghost use Rattle.frames.specs.Lines.{arguments, open_of, change_of, lay_of, split_of, join_of, write_of, load_of};
+ghost use Rattle.frames.specs.Answers.{max_session, output_bytes};
 ghost use Rattle.frames.specs.Calling.{refusal_number, words_in, Changed, Wrote};
+ghost use Rattle.frames.specs.Lent.{Opened};
 ghost use Rattle.frames.specs.declared.calls.Refusal.TheVariants.{AnsweredNo};
 
-use beat::{joining, laying, splitting};
+use crate::sessions::MAX_SESSION;
+use beat::{joining, laying, opening, splitting};
 use file::{loading, writing};
 use model::questions::Question;
 use track::bytes::word32;
@@ -57,7 +59,7 @@ fn read_words(bytes: &[u8], first: usize, words: &mut [u32])
 }
 
 // The arguments of a call that has N words of them.
-pub(crate) fn words_of<const N: usize>(bytes: &[u8]) -> Result<[u32; N], Refusal>
+fn words_of<const N: usize>(bytes: &[u8]) -> Result<[u32; N], Refusal>
     ensures { result ≡ words_in N bytes.now }
 {
     if bytes.len() / 4 != N || bytes.len() % 4 != 0 {
@@ -136,4 +138,45 @@ pub fn write(session: &[u32], bytes: &[u8], output: &mut [u8]) -> Result<usize, 
     let mut count = 0;
     writing::take_write(session, shelf, output, &mut count)?;
     Ok(count as usize)
+}
+
+// What an open leaves: how it ended, and the length of the session in words.
+#[derive(Clone, Copy)]
+pub struct Done {
+    pub outcome: Result<(), Refusal>,
+    pub size: usize,
+}
+
+// A refused open keeps the earlier session, of `held` words.
+fn refused(refusal: Refusal, held: usize) -> Done
+    ensures { result ≡ record { outcome = Err refusal; size = held } }
+{
+    Done {
+        outcome: Err(refusal),
+        size: held,
+    }
+}
+
+// Open: δ, ε, K, W, at the start of words that are lent, of which the session so far is the first `held`.
+pub fn open_frame(words: &mut [u32], held: usize, bytes: &[u8]) -> Done
+    requires within { held ≤ max_session }
+    requires whole { length words.old ≡ max_session }
+    ensures { Opened words.old held (open_of bytes.now) words.new result }
+{
+    let [delta, epsilon, shelves, shelf_words] = match words_of::<4>(bytes) {
+        Ok(header) => header,
+        Err(refusal) => return refused(refusal, held),
+    };
+    let asked = 4 + (shelves as u64) * (shelf_words as u64);
+    if asked > MAX_SESSION as u64 {
+        return refused(Refusal::AnsweredNo(Question::HeaderInRange), held);
+    }
+    let size = asked as usize;
+    match opening::take_open(&mut words[..size], delta, epsilon, shelves, shelf_words) {
+        Ok(()) => Done {
+            outcome: Ok(()),
+            size,
+        },
+        Err(question) => refused(Refusal::AnsweredNo(question), held),
+    }
 }

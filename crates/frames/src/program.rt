@@ -96,7 +96,7 @@ impl Progress {
         }
     }
 
-    // Answers a last line without a line feed, if it has a character. Room for its answer is asked here, and in six contracts of `input` and
+    // Answers a last line without a line feed, if it has a character. Room for its answer is asked here, and in seven contracts of `input` and
     // `answers`: no type carries it, since answers use it up and a write makes it again, while what a type says holds all the time.
     fn last_line(&mut self)
         requires { length self.old.answers + max_answer ≤ out_bytes }

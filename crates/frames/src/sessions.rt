@@ -6,8 +6,6 @@ ghost use Rattle.frames.specs.Calling.{Changed};
 use crate::buffer::Buffer;
 use crate::calls;
 use crate::calls::Refusal;
-use beat::opening;
-use model::questions::Question;
 
 // The words of the largest session.
 pub const MAX_SESSION: usize = 8192;
@@ -20,16 +18,9 @@ impl Buffer<u32, MAX_SESSION> {
     pub fn open(&mut self, bytes: &[u8]) -> Result<(), Refusal>
         ensures { Changed self.old (open_of bytes.now) self.new result }
     {
-        let [delta, epsilon, shelves, shelf_words] = calls::words_of::<4>(bytes)?;
-        let asked = 4 + (shelves as u64) * (shelf_words as u64);
-        if asked > MAX_SESSION as u64 {
-            return Err(Refusal::AnsweredNo(Question::HeaderInRange));
-        }
-        let size = asked as usize;
-        let words = &mut self.items[..size];
-        opening::take_open(words, delta, epsilon, shelves, shelf_words)?;
-        self.count = size;
-        Ok(())
+        let done = calls::open_frame(&mut self.items, self.count, bytes);
+        self.count = done.size;
+        done.outcome
     }
 
     // The calls that change an open session.

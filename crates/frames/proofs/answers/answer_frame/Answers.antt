@@ -7,4 +7,4 @@ pub returns-in-len1-up : goal.returns-in-len1-up
 returns-in-len1-up c = rw (frame_some c.args.frame.now (omega arith)) c.answer_call.ensures
 
 pub returns-in-empty : goal.returns-in-empty
-returns-in-empty c = answer_none _ (frame_empty c.args.frame.now (omega arith)) _ _ c.put_number.ensures
+returns-in-empty c = rw c.leaves.ensures (answer_none _ _ (omega arith) (omega arith) (frame_empty c.args.frame.now (omega arith)) c.put_number.ensures)
